@@ -1,0 +1,12 @@
+pub mod Lists
+pub mod Space
+pub mod Boxes
+pub mod Rounds
+pub mod Order
+pub mod Tight
+pub mod Entries
+pub mod Full
+pub mod Steps
+pub mod Asked
+pub mod Mixes
+pub mod Narrowing

@@ -1,0 +1,10 @@
+pub mod Capacity
+pub mod Board
+pub mod Layout
+pub mod Box
+pub mod Tight
+pub mod Laws
+pub mod Settled
+pub mod Refusals
+pub mod Entries
+pub mod Calls
