@@ -10,3 +10,4 @@ pub mod Steps
 pub mod Asked
 pub mod Mixes
 pub mod Narrowing
+pub mod Cuts

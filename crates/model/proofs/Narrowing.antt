@@ -1,20 +1,23 @@
 -- How to show that a run made of entries is the tight box of a rule. Assumes nothing.
-use mathlib.Core.Path.{_≡_, sym, ap, _∙_}
-use mathlib.Core.Bool.{Bool, true}
+use mathlib.Core.Path.{_≡_, refl, sym, ap, _∙_, subst}
+use mathlib.Core.Bool.{Bool, true, false, _||_, false≢true, true≢false}
 use mathlib.Core.List.{List, [], _∷_}
 use mathlib.Core.Logic.{inl, inr}
 use Prim.Native.Nat.{_<_}
+use native.Mathlib.Omega.{arith}
 use Rattle.std.specs.shelf.Lists.{All}
 use Rattle.std.proofs.shelf.Tests.{both-ways, cases-bool}
 use Rattle.model.specs.Board.{Board}
-use Rattle.model.specs.Box.{Box, Choice, In, Inside, Kept, Live, choice, dead, live, offers}
-use Rattle.model.specs.Entries.{Entry, cut, keeps, narrow, narrowed, placed}
+use Rattle.model.specs.Box.{Box, Choice, In, Inside, Kept, Live, choice, dead, live, offers, size}
+use Rattle.model.specs.Entries.{Entry, cut, keeps, narrow, narrowed, placed, stored}
+use Rattle.model.specs.Laws.{Narrows}
 use Rattle.model.specs.Layout.{Layout, On}
+use Rattle.model.specs.Settled.{Progress}
 use Rattle.model.specs.Tight.{Supported, tight}
 use Rattle.model.proofs.Boxes.{choice-live, dead-choice, lay-mem, live-choice, live-dead, live-true, mem-lay, space}
 use Rattle.model.proofs.Entries.{entry-keeps, entry-narrows, narrow-yes, stored-live, stored-not}
-use Rattle.model.proofs.Order.{fewer-one, inside-fewer}
-use Rattle.model.proofs.Tight.{dead-stays, ordering, tightness}
+use Rattle.model.proofs.Order.{fewer-one, inside-fewer, ordered}
+use Rattle.model.proofs.Tight.{dead-stays, from, ordering, tightness}
 
 module _ (bd : Board) (some : 0 < bd .sensors) where
   -- a box whose choices are the supported ones is the tight box
@@ -79,3 +82,34 @@ module _ (bd : Board) (some : 0 < bd .sensors) where
           | inr v ↦ absurd (gone _ (stored-not bd some (cut e b) v) (narrow-yes bd some e b p))
         ],
       )
+
+  -- ---- what a write that stands for an entry shows
+
+  -- nothing to write
+  pub narrow-same : (e : Entry) (b : Box) → placed bd e ≡ true → Kept bd b → cut e b ≡ b → narrow bd e b ≡ b
+  narrow-same e b p (inl d) q = ap (narrow bd e) d ∙ dead-stays bd some (narrow bd e) (entry-narrows bd some e) ∙ sym d
+  narrow-same e b p (inr l) q = narrow-yes bd some e b p ∙ ap (stored bd) q ∙ stored-live bd some b (live-true bd some b l)
+
+  -- a run that changes the box lessens its size
+  pub run-falls : (r : Box → Box) → Narrows bd r → (b : Box) → Kept bd b → (r b ≡ b → ⊥) → size bd (r b) < size bd b
+  run-falls r n b k ne = elim (ordered bd some .smaller (r b) b (n .kept b k) k (from bd some (r b) b (n .kept b k) k (n .shrinks b k))) [ inl l ↦ l | inr e ↦ absurd (ne e) ]
+
+  pub progress-none : (b : Box) → Progress bd false b b
+  progress-none b = record { still = λ _. refl; falls = λ e. absurd (false≢true e) }
+
+  pub progress-entry : (e : Entry) (b b′ : Box) → Kept bd b → b′ ≡ narrow bd e b → (b′ ≡ b → ⊥) → Progress bd true b b′
+  progress-entry e b b′ k q ne = record {
+    still = λ e. absurd (true≢false e);
+    falls = λ _. subst (λ x. size bd x < size bd b) (sym q) (run-falls (narrow bd e) (entry-narrows bd some e) b k (λ z. ne (q ∙ z)));
+  }
+
+  -- one step after another
+  pub progress-join : (s t : Bool) (a b c : Box) → Progress bd s a b → Progress bd t b c → Progress bd (s || t) a c
+  progress-join true true a b c p q = record { still = λ e. absurd (true≢false e); falls = λ _. omega (arith, p .falls refl, q .falls refl) }
+  progress-join true false a b c p q = record { still = λ e. absurd (true≢false e); falls = λ _. subst (λ x. size bd x < size bd a) (sym (q .still refl)) (p .falls refl) }
+  progress-join false true a b c p q = record { still = λ e. absurd (true≢false e); falls = λ _. subst (λ x. size bd c < size bd x) (p .still refl) (q .falls refl) }
+  progress-join false false a b c p q = record { still = λ _. q .still refl ∙ p .still refl; falls = λ e. absurd (false≢true e) }
+
+  pub no-live : (b : Box) → Kept bd b → live bd b ≡ false → b ≡ dead bd
+  no-live b (inl d) e = d
+  no-live b (inr l) e = absurd (both-ways _ e (live-true bd some b l))

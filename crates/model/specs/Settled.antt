@@ -1,6 +1,6 @@
 -- The settled box: the largest box inside a given one that no run of a list changes. Assumes nothing.
 use mathlib.Core.Path.{_≡_}
-use mathlib.Core.Bool.{true, false}
+use mathlib.Core.Bool.{Bool, true, false}
 use mathlib.Core.List.{List, [], _∷_}
 use Prim.Native.Nat.{ℕ, zero, suc, _<_}
 use lib.Dec.{ltb}
@@ -35,6 +35,11 @@ settledBy size rs b = rounds size rs (size b) b
 
 abbrev pub settled : Board → List (Box → Box) → Box → Box
 settled bd rs b = settledBy (size bd) rs b
+
+-- what a step from box a to box b tells: not moved, the box is as it was; moved, its size has fallen
+pub record Progress (bd : Board) (moved : Bool) (a b : Box) : Type 0 where
+  pub still : moved ≡ false → b ≡ a
+  pub falls : moved ≡ true → size bd b < size bd a
 
 -- what is proved of settling, for runs that shrink and are monotone
 pub record Settling (bd : Board) : Type 0 where

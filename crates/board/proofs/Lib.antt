@@ -1,0 +1,3 @@
+pub mod Shapes
+pub mod Words
+pub mod Fills

@@ -1,0 +1,13 @@
+use mathlib.Core.Path.{_≡_, sym, _∙_}
+use native.Mathlib.Omega.{arith}
+use Rattle.std.proofs.shelf.Lists.{getD-past}
+use Rattle.board.proofs.Shapes.{hi-of}
+use Rattle.board.proofs.domains.Domains.upper.Needs as need
+
+pub returns-then-j-lt-MOST-SETS : need.returns-then-j-lt-MOST-SETS
+returns-then-j-lt-MOST-SETS c = sym (hi-of (c .args .self .now) (c .args .set))
+
+pub returns-else-j-lt-MOST-SETS : need.returns-else-j-lt-MOST-SETS
+returns-else-j-lt-MOST-SETS c =
+    let d = c .args .self .now in
+    sym (hi-of d (c .args .set) ∙ getD-past (d .hi) (c .args .set) 0 (omega (arith, d .long .2)))
