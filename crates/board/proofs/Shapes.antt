@@ -82,8 +82,8 @@ module _ (d : Domains) where
   hi-long = omega (arith, d .long .2, d .sized .2 .0)
 
   -- it is the dead box, or live and on the board
-  pub kept : Kept (board d) (model d)
-  kept = elim (cases-bool (live (board d) (model d))) [
+  pub is-kept : Kept (board d) (model d)
+  is-kept = elim (cases-bool (live (board d) (model d))) [
     | inl v ↦ inr (live-of (board d) (d .cands) (d .lo) (d .hi) cands-long lo-long hi-long some (d .fitted) v)
     | inr v ↦ inl (dead-of (board d) (d .cands) (d .lo) (d .hi) cands-long lo-long hi-long (λ i _. d .canon .0 i v) (λ i _. d .canon .1 i v) (λ i _. d .canon .2 i v))
   ]

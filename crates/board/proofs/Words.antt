@@ -21,7 +21,7 @@ use Rattle.model.proofs.Narrowing.{live-kept, narrow-same, no-live, progress-en
 use Rattle.model.proofs.Tight.{dead-stays}
 use Rattle.board.specs.Model.{board, model}
 use Rattle.board.specs.Shape.{Beyond, Canon, Fitted, Long, Padded, boxOf}
-use Rattle.board.proofs.Shapes.{cand-of, hi-of, kept, lo-of, some}
+use Rattle.board.proofs.Shapes.{cand-of, hi-of, is-kept, lo-of, some}
 use Rattle.board.specs.declared.domains.Domains.{Domains}
 
 beyond-set : (n : ℕ) (xs : List ℕ) (i v : ℕ) → i < n → Beyond n xs → Beyond n (set xs i v)
@@ -48,7 +48,7 @@ module _ (d : Domains) where
   -- one that finds the dead box
   pub on-dead : (e : Entry) → live (board d) (model d) ≡ false → Entered e d false (board d) (model d)
   on-dead e v =
-      let z = no-live (board d) (some d) (model d) (kept d) v in
+      let z = no-live (board d) (some d) (model d) (is-kept d) v in
       record {
         board-same = refl;
         model-is = sym (ap (narrow (board d) e) z ∙ dead-stays (board d) (some d) (narrow (board d) e) (entry-narrows (board d) (some d) e) ∙ sym z);
@@ -58,7 +58,7 @@ module _ (d : Domains) where
   module _ (e : Entry) (p : placed (board d) e ≡ true) where
     -- nothing to write
     pub unchanged : cut e (model d) ≡ model d → Entered e d false (board d) (model d)
-    unchanged q = record { board-same = refl; model-is = sym (narrow-same (board d) (some d) e (model d) p (kept d) q); progress = progress-none (board d) (some d) (model d) }
+    unchanged q = record { board-same = refl; model-is = sym (narrow-same (board d) (some d) e (model d) p (is-kept d) q); progress = progress-none (board d) (some d) (model d) }
 
     module _ (v : live (board d) (model d) ≡ true) where
       -- the box dies
@@ -68,7 +68,7 @@ module _ (d : Domains) where
           record {
             board-same = same;
             model-is = m;
-            progress = progress-entry (board d) (some d) e (model d) b′ (kept d) m (λ z. both-ways _ (ap (live (board d)) (sym z ∙ q) ∙ live-dead (board d) (some d)) v);
+            progress = progress-entry (board d) (some d) e (model d) b′ (is-kept d) m (λ z. both-ways _ (ap (live (board d)) (sym z ∙ q) ∙ live-dead (board d) (some d)) v);
           }
 
       -- a word is written
@@ -78,7 +78,7 @@ module _ (d : Domains) where
           record {
             board-same = refl;
             model-is = m;
-            progress = progress-entry (board d) (some d) e (model d) b′ (kept d) m (λ z. ne (sym q ∙ z));
+            progress = progress-entry (board d) (some d) e (model d) b′ (is-kept d) m (λ z. ne (sym q ∙ z));
           }
 
   -- ---- the rows after a write, with what a stored box keeps
@@ -170,7 +170,7 @@ module _ (d : Domains) where
 
 -- a box whose word is not empty is live
 pub live-by : (d : Domains) → (live (board d) (model d) ≡ false → ⊥) → Live (board d) (model d)
-live-by d f = elim (kept d) [
+live-by d f = elim (is-kept d) [
   | inl z ↦ absurd (f (ap (live (board d)) z ∙ live-dead (board d) (some d)))
   | inr l ↦ l
 ]
@@ -189,7 +189,7 @@ module _ (d : Domains) (i m : ℕ) (r : i < board d .sensors) where
   alive ne = live-by d (λ v. let z = d .canon .0 i v in ne (ap (λ x. bitAnd x m) z ∙ sym z))
 
   pub limit-none : bitAnd was m ≡ was → Entered (limit i m) d false (board d) (model d)
-  limit-none e = elim (kept d) [
+  limit-none e = elim (is-kept d) [
     | inl z ↦ on-dead d (limit i m) (ap (live (board d)) z ∙ live-dead (board d) (some d))
     | inr l ↦ unchanged d (limit i m) on (limit-same (board d) (some d) (model d) l i m (model-was ∙ e ∙ sym (cand-of d i)))
   ]
@@ -210,7 +210,7 @@ module _ (d : Domains) (j m : ℕ) (r : j < board d .sets) where
     low = getD (d .lo) j 0
 
     live-d : Live (board d) (model d)
-    live-d = live-kept (board d) (some d) (model d) (kept d) v
+    live-d = live-kept (board d) (some d) (model d) (is-kept d) v
 
     model-low : bitOr (lo (model d) j) m ≡ bitOr low m
     model-low = ap (λ x. bitOr x m) (lo-of d j)
@@ -246,7 +246,7 @@ module _ (d : Domains) (j m : ℕ) (r : j < board d .sets) where
   open-high ne = live-by d (λ v. let z = d .canon .2 j v in ne (ap (λ x. without x m) z ∙ sym z))
 
   pub bar-none : without high m ≡ high → Entered (bar j m) d false (board d) (model d)
-  bar-none e = elim (kept d) [
+  bar-none e = elim (is-kept d) [
     | inl z ↦ on-dead d (bar j m) (ap (live (board d)) z ∙ live-dead (board d) (some d))
     | inr l ↦ unchanged d (bar j m) on-bar (bar-same (board d) (some d) (model d) l j m (model-high ∙ e ∙ sym (hi-of d j)))
   ]

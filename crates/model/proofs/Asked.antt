@@ -6,9 +6,10 @@ use Prim.Native.Nat.{ℕ, _<_}
 use Rattle.std.specs.shelf.Lists.{All}
 use Rattle.model.specs.Board.{Board}
 use Rattle.model.specs.Box.{Box, In, Kept}
-use Rattle.model.specs.Laws.{Lawful, Laws, Narrows, asked, fits, heeded}
+use Rattle.model.specs.Laws.{Lawful, Laws, Narrows, Restful, asked, fits, heeded}
 use Rattle.model.specs.Layout.{Layout, On}
-use Rattle.model.proofs.Tight.{ordering}
+use Rattle.model.specs.Tight.{tight}
+use Rattle.model.proofs.Tight.{ordering, tightness}
 
 pub narrows-of : (bd : Board) (holds : Layout → Bool) (run : Box → Box) → Laws bd holds run → Narrows bd run
 narrows-of bd holds run l = record { kept = l .kept; shrinks = l .shrinks; monotone = l .monotone }
@@ -55,3 +56,10 @@ module _ {R : Type 0} {fault : Board → R → ℕ} {holds : Board → R → Lay
   unfolding heeded
   asked-keeps r b k x o i h = asked-laws r .keeps-supports b k x o i
       (elim (fits fault bd r) as (λ t. elim t [ true ↦ holds bd r x | false ↦ true ] ≡ true) [ true ↦ h | false ↦ refl ])
+
+-- a kind whose run is its tight box has all laws
+pub tight-lawful : {R : Type 0} (fault : Board → R → ℕ) (holds : Board → R → Layout → Bool) → Lawful fault holds (λ bd r. tight bd (holds bd r))
+tight-lawful fault holds = record { laws = λ bd some r f. tightness bd some (holds bd r) .laws }
+
+pub tight-restful : {R : Type 0} (fault : Board → R → ℕ) (holds : Board → R → Layout → Bool) → Restful fault (λ bd r. tight bd (holds bd r))
+tight-restful fault holds = record { rests = λ bd some r f. tightness bd some (holds bd r) .rests }

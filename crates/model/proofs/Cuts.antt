@@ -6,7 +6,7 @@ use Prim.Native.Nat.{ℕ, _<_}
 use native.Mathlib.Omega.{arith}
 use lib.Dec.{eqb}
 use lib.ListN.{set}
-use lib.Seq.{getD-set-same}
+use lib.Seq.{getD-set-same, getD-set-other}
 use lib.Bits.{bitAnd, bitOr}
 use Rattle.std.proofs.shelf.Tests.{both-ways, eqb-false, ne-eqb, cases-bool, and-from, not-from-false}
 use Rattle.std.proofs.shelf.Lists.{set-getD}
@@ -21,7 +21,7 @@ module _ (bd : Board) (some : 0 < bd .sensors) (b : Box) (l : Live bd b) where
   -- ---- a limit
 
   module _ (i m : ℕ) (h : i < bd .sensors) where
-    limit-at : cand (cut (limit i m) b) i ≡ bitAnd (cand b i) m
+    pub limit-at : cand (cut (limit i m) b) i ≡ bitAnd (cand b i) m
     unfolding cut
     limit-at = getD-set-same (b .cands) i (bitAnd (cand b i) m) 0 (omega (arith, l .cands-many))
 
@@ -47,13 +47,17 @@ module _ (bd : Board) (some : 0 < bd .sensors) (b : Box) (l : Live bd b) where
   -- ---- a claim
 
   module _ (j m : ℕ) (h : j < bd .sets) where
-    claim-at : lo (cut (claim j m) b) j ≡ bitOr (lo b j) m
+    pub claim-at : lo (cut (claim j m) b) j ≡ bitOr (lo b j) m
     unfolding cut
     claim-at = getD-set-same (b .lows) j (bitOr (lo b j) m) 0 (omega (arith, l .lows-many))
 
-    claim-high : hi (cut (claim j m) b) j ≡ hi b j
+    pub claim-there : (k : ℕ) → (k ≡ j → ⊥) → lo (cut (claim j m) b) k ≡ lo b k
     unfolding cut
-    claim-high = refl
+    claim-there k ne = getD-set-other (b .lows) j k (bitOr (lo b j) m) 0 ne
+
+    pub claim-high : (k : ℕ) → hi (cut (claim j m) b) k ≡ hi b k
+    unfolding cut
+    claim-high k = refl
 
     pub claim-live : within (bitOr (lo b j) m) (hi b j) ≡ true → live bd (cut (claim j m) b) ≡ true
     unfolding cut live
@@ -63,7 +67,7 @@ module _ (bd : Board) (some : 0 < bd .sensors) (b : Box) (l : Live bd b) where
 
     pub claim-dies : within (bitOr (lo b j) m) (hi b j) ≡ false → live bd (cut (claim j m) b) ≡ false
     claim-dies w = elim (cases-bool (live bd (cut (claim j m) b))) [
-      | inl v ↦ absurd (both-ways _ w (sym (ap₂ within claim-at claim-high) ∙ live-bounds bd some _ v j h))
+      | inl v ↦ absurd (both-ways _ w (sym (ap₂ within claim-at (claim-high j)) ∙ live-bounds bd some _ v j h))
       | inr v ↦ v
     ]
 
@@ -77,13 +81,17 @@ module _ (bd : Board) (some : 0 < bd .sensors) (b : Box) (l : Live bd b) where
   -- ---- a bar
 
   module _ (j m : ℕ) (h : j < bd .sets) where
-    bar-at : hi (cut (bar j m) b) j ≡ without (hi b j) m
+    pub bar-at : hi (cut (bar j m) b) j ≡ without (hi b j) m
     unfolding cut
     bar-at = getD-set-same (b .highs) j (without (hi b j) m) 0 (omega (arith, l .highs-many))
 
-    bar-low : lo (cut (bar j m) b) j ≡ lo b j
+    pub bar-there : (k : ℕ) → (k ≡ j → ⊥) → hi (cut (bar j m) b) k ≡ hi b k
     unfolding cut
-    bar-low = refl
+    bar-there k ne = getD-set-other (b .highs) j k (without (hi b j) m) 0 ne
+
+    pub bar-low : (k : ℕ) → lo (cut (bar j m) b) k ≡ lo b k
+    unfolding cut
+    bar-low k = refl
 
     pub bar-live : within (lo b j) (without (hi b j) m) ≡ true → live bd (cut (bar j m) b) ≡ true
     unfolding cut live
@@ -93,7 +101,7 @@ module _ (bd : Board) (some : 0 < bd .sensors) (b : Box) (l : Live bd b) where
 
     pub bar-dies : within (lo b j) (without (hi b j) m) ≡ false → live bd (cut (bar j m) b) ≡ false
     bar-dies w = elim (cases-bool (live bd (cut (bar j m) b))) [
-      | inl v ↦ absurd (both-ways _ w (sym (ap₂ within bar-low bar-at) ∙ live-bounds bd some _ v j h))
+      | inl v ↦ absurd (both-ways _ w (sym (ap₂ within (bar-low j) bar-at) ∙ live-bounds bd some _ v j h))
       | inr v ↦ v
     ]
 

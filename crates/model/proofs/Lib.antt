@@ -11,3 +11,4 @@ pub mod Asked
 pub mod Mixes
 pub mod Narrowing
 pub mod Cuts
+pub mod Witness

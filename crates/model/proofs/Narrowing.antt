@@ -113,3 +113,11 @@ module _ (bd : Board) (some : 0 < bd .sensors) where
   pub no-live : (b : Box) → Kept bd b → live bd b ≡ false → b ≡ dead bd
   no-live b (inl d) e = d
   no-live b (inr l) e = absurd (both-ways _ e (live-true bd some b l))
+
+  -- several entries that leave the box live did what their words say
+  pub narrowed-cut : (es : List Entry) (b : Box) → All (λ e. placed bd e ≡ true) es → Kept bd b → Live bd (narrowed (narrow bd) es b) → Live bd b × (narrowed (narrow bd) es b ≡ narrowed cut es b)
+  narrowed-cut [] b p k l = (l, refl)
+  narrowed-cut (e ∷ es) b p k l =
+      let rest = narrowed-cut es (narrow bd e b) (p .1) (entry-narrows bd some e .kept b k) l in
+      let here = narrow-cut e b (p .0) k (rest .0) in
+      (here .0, rest .1 ∙ ap (narrowed cut es) (here .1))
