@@ -1,0 +1,22 @@
+use mathlib.Core.Path.{_≡_, refl, ap, ap₂}
+use mathlib.Core.Bool.{true}
+use borrow.Author.Needs.{needs}
+use lib.ListN.{length, take}
+use Rattle.model.specs.Board.{Board}
+use Rattle.model.specs.Box.{Box}
+use Rattle.model.specs.Calls.{State}
+use Rattle.model.proofs.Mixes.{mixes-stand}
+use Rattle.board.specs.Model.{board, model}
+use Rattle.plan.proofs.draft.Draft.settle.Needs as need
+
+pub returns : need.returns
+returns g c =
+    let s = c .args .self in
+    let xs = s .places .now in
+    let e = c .settle-table .ensures in
+    record {
+      lent = search needs;
+      places = search needs;
+      plan = λ i. record { board = e .board i; places = length xs; box = e .model i; rules = take (s .count) xs; done = true };
+      mixes = mixes-stand (g .R·Rule·met .lawful);
+    }

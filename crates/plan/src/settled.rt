@@ -1,0 +1,70 @@
+ghost use mathlib.Core.Path.{_≡_};
+ghost use mathlib.Core.Bool.{not};
+ghost use mathlib.Core.List.{_∷_, []};
+ghost use lib.Dec.{leb};
+ghost use Rattle.std.specs.Vec.{made};
+ghost use Rattle.model.specs.Box.{cand, lo as lowOf, hi as highOf, live};
+ghost use Rattle.model.specs.Refusals.{refusal};
+ghost use Rattle.board.specs.Numbers.{outcome};
+ghost use Rattle.board.specs.Model.{board, model};
+ghost use Rattle.text.specs.Lines.{listing as listingText};
+ghost use Rattle.text.specs.Printed.{Printed};
+use board::domains::Domains;
+use board::refusal::Refusal;
+use text::listing::listing;
+
+// A plan at rest. It can be read, and takes no entries.
+#[derive(Drop)]
+pub struct Settled<'a, R> {
+    pub(crate) plan: Domains,
+    pub(crate) places: &'a mut [R],
+    pub(crate) count: usize,
+}
+
+// The bounds of a set: what every layout left takes in, and what some layout left may take in.
+#[derive(Clone, Copy, PartialEq, Eq, Debug)]
+pub struct Bounds {
+    pub lower: u64,
+    pub upper: u64,
+}
+
+impl<'a, R> Settled<'a, R> {
+    // The candidates of a sensor.
+    pub fn candidates(&self, sensor: u8) -> Result<u64, Refusal>
+        ensures answer { λ r. ⌜ outcome r ≡ refusal ((2, leb (board (now (self .entry) .plan) .sensors) sensor) ∷ []) ⌝ }
+        ensures value { λ r. ⌜ made r (λ m. m ≡ cand (model (now (self .entry) .plan)) sensor) ⌝ }
+    {
+        if sensor >= self.plan.sensors() {
+            return Err(Refusal::Sensor);
+        }
+        Ok(self.plan.candidates(sensor))
+    }
+
+    // The bounds of a set.
+    pub fn bounds(&self, set: u8) -> Result<Bounds, Refusal>
+        ensures answer { λ r. ⌜ outcome r ≡ refusal ((3, leb (board (now (self .entry) .plan) .sets) set) ∷ []) ⌝ }
+        ensures value { λ r. ⌜ made r (λ b. (b .lower ≡ lowOf (model (now (self .entry) .plan)) set) × (b .upper ≡ highOf (model (now (self .entry) .plan)) set)) ⌝ }
+    {
+        if set >= self.plan.sets() {
+            return Err(Refusal::Set);
+        }
+        Ok(Bounds {
+            lower: self.plan.lower(set),
+            upper: self.plan.upper(set),
+        })
+    }
+
+    // Whether no layout is left.
+    pub fn dead(&self) -> bool
+        ensures { λ r. ⌜ r ≡ not (live (board (now (self .entry) .plan)) (model (now (self .entry) .plan))) ⌝ }
+    {
+        self.plan.is_dead()
+    }
+
+    // Writes the listing at the front of the output and tells its length; an output that is too short is refused and left as it was.
+    pub fn listing(&self, out: &mut [u8]) -> Result<usize, Refusal>
+        ensures { λ r. ⌜ Printed (listingText (board (now (self .entry) .plan)) (model (now (self .entry) .plan))) r (now (out .entry)) (now (out .exit)) ⌝ }
+    {
+        listing(&self.plan, out)
+    }
+}

@@ -1,0 +1,3 @@
+pub mod listing;
+mod pieces;
+pub mod refused;
