@@ -1,0 +1,4 @@
+pub mod Covering
+pub mod Matching
+pub mod Search
+pub mod Notes

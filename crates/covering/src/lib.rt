@@ -1,0 +1,6 @@
+mod bits;
+pub mod cover;
+mod flip;
+pub mod notes;
+mod search;
+mod takers;
