@@ -8,7 +8,7 @@ use native.Mathlib.Nat.{pow-suc}
 use lib.Dec.{eqb}
 use lib.Pow.{pow-pos, pow-mono}
 use Rattle.std.proofs.shelf.Tests.{both-ways, not-true, eqb-false, eq-eqb, ne-eqb, cases-lt, and-parts, cases-eq, cases-bool, and-from, not-from-false}
-use Rattle.masks.specs.Masks.{has, lowest, past, stretch, up-to}
+use Rattle.masks.specs.Masks.{has, lowest, numbers, past, stretch}
 use Rattle.masks.proofs.Counts.{first, first-has}
 use Rattle.masks.proofs.Masks.{bit, half-below, has-below, has-full, has-without}
 use Rattle.masks.proofs.Subsets.{nonzero}
@@ -87,30 +87,27 @@ past-has m h p =
 
 -- ---- stretches
 
-up-to-has : (n i : ℕ) → i < 64 → i < n → has (up-to n) i ≡ true
-up-to-has n i p q = has-full (min n 64) i (omega arith)
+numbers-has : (n i : ℕ) → i < 64 → i < n → has (numbers n) i ≡ true
+numbers-has n i p q = has-full (min n 64) i (omega arith)
 
-up-to-below : (n i : ℕ) → has (up-to n) i ≡ true → (i < n) × (i < 64)
-up-to-below n i e =
-    let h = has-below (min n 64) (up-to n) i (omega (arith, pow-pos (min n 64))) e in
+numbers-below : (n i : ℕ) → has (numbers n) i ≡ true → (i < n) × (i < 64)
+numbers-below n i e =
+    let h = has-below (min n 64) (numbers n) i (omega (arith, pow-pos (min n 64))) e in
     (omega arith, omega arith)
 
-up-to-not : (n i : ℕ) → n ≤ i → has (up-to n) i ≡ false
-up-to-not n i h = elim (cases-bool (has (up-to n) i)) [ inl e ↦ absurd (omega (arith, up-to-below n i e .0)) | inr e ↦ e ]
+numbers-not : (n i : ℕ) → n ≤ i → has (numbers n) i ≡ false
+numbers-not n i h = elim (cases-bool (has (numbers n) i)) [ inl e ↦ absurd (omega (arith, numbers-below n i e .0)) | inr e ↦ e ]
 
 pub stretch-has : (s e i : ℕ) → i < 64 → s ≤ i → i < e → has (stretch s e) i ≡ true
 unfolding stretch
-stretch-has s e i h p q = has-without (up-to e) (up-to s) i ∙ and-from _ _ (up-to-has e i h q) (not-from-false _ (up-to-not s i p))
+stretch-has s e i h p q = has-without (numbers e) (numbers s) i ∙ and-from _ _ (numbers-has e i h q) (not-from-false _ (numbers-not s i p))
 
-pub stretch-below : (s e i : ℕ) → has (stretch s e) i ≡ true → i < 64
+pub stretch-ends : (s e i : ℕ) → has (stretch s e) i ≡ true → (i < 64) × (s ≤ i) × (i < e)
 unfolding stretch
-stretch-below s e i h = up-to-below e i (and-parts _ _ (sym (has-without (up-to e) (up-to s) i) ∙ h) .0) .1
-
-pub stretch-ends : (s e i : ℕ) → has (stretch s e) i ≡ true → i < 64 → (s ≤ i) × (i < e)
-unfolding stretch
-stretch-ends s e i h k =
-    let w = and-parts _ _ (sym (has-without (up-to e) (up-to s) i) ∙ h) in
-    (elim (cases-lt i s) [ inl q ↦ absurd (both-ways _ (not-true _ (w .1)) (up-to-has s i k q)) | inr q ↦ q ], up-to-below e i (w .0) .0)
+stretch-ends s e i h =
+    let w = and-parts _ _ (sym (has-without (numbers e) (numbers s) i) ∙ h) in
+    let k = numbers-below e i (w .0) in
+    (k .1, elim (cases-lt i s) [ inl q ↦ absurd (both-ways _ (not-true _ (w .1)) (numbers-has s i (k .1) q)) | inr q ↦ q ], k .0)
 
 pub stretch-small : (s e : ℕ) → stretch s e < 2 ^ 64
 unfolding stretch

@@ -20,12 +20,12 @@ abbrev pub within : ℕ → ℕ → Bool
 within a b = eqb (bitAnd a b) a
 
 -- the numbers below n, those below 64 where n is more
-abbrev pub up-to : ℕ → ℕ
-up-to n = 2 ^ min n 64 - 1
+abbrev pub numbers : ℕ → ℕ
+numbers n = 2 ^ min n 64 - 1
 
 -- the numbers from s on, up to e and without it; none from 64 on
 unfoldable pub stretch : ℕ → ℕ → ℕ
-stretch s e = without (up-to e) (up-to s)
+stretch s e = without (numbers e) (numbers s)
 
 -- the least member of a mask of 64 bits; 64 where there is none
 abbrev pub lowest : ℕ → ℕ
@@ -64,6 +64,6 @@ pub record Masks : Type 0 where
   pub least-in : (m : ℕ) → m < 2 ^ 64 → 0 < m → has m (lowest m) ≡ true
   pub greatest : (m i : ℕ) → m < 2 ^ 64 → has m i ≡ true → i < past m
   pub greatest-in : (m : ℕ) → m < 2 ^ 64 → 0 < m → has m (past m - 1) ≡ true
-  -- a stretch has what lies between its ends
+  -- a stretch has just what lies between its ends
   pub stretched : (s e i : ℕ) → i < 64 → s ≤ i → i < e → has (stretch s e) i ≡ true
-  pub between : (s e i : ℕ) → has (stretch s e) i ≡ true → i < 64 → (s ≤ i) × (i < e)
+  pub between : (s e i : ℕ) → has (stretch s e) i ≡ true → (i < 64) × (s ≤ i) × (i < e)

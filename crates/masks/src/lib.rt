@@ -1,8 +1,8 @@
 ghost use mathlib.Core.Path.{_≡_};
-ghost use Prim.Native.Nat.{_-_, _^_, min};
+ghost use Prim.Native.Nat.{_^_};
 ghost use lib.Dec.{eqb, ltb};
 ghost use lib.Count.{ones};
-ghost use Rattle.masks.specs.Masks.{Masks, has, without, within, lowest as leastOf, past as pastOf, stretch as stretchOf};
+ghost use Rattle.masks.specs.Masks.{Masks, has, without, within, numbers, lowest as leastOf, past as pastOf, stretch as stretchOf};
 
 // The laws of masks as finite sets hold.
 pub fn masks_stand() -> u8
@@ -41,7 +41,7 @@ pub fn is_single(mask: u64) -> bool
 
 // The numbers below n, those below 64 where n is more.
 pub fn all_below(n: u8) -> u64
-    ensures { λ r. ⌜ r ≡ 2 ^ min n 64 - 1 ⌝ }
+    ensures { λ r. ⌜ r ≡ numbers n ⌝ }
 {
     if n >= 64 { u64::MAX } else { (1 << n) - 1 }
 }

@@ -172,6 +172,6 @@ pub count-tight : (bd : Board) (some : 0 < bd .sensors) (a least most : ℕ) →
 count-tight bd some a least most f x k =
     one-tight bd some a (f .known) (counted least most) (count-out (lo x a) (hi x a) most) (count-in (hi x a) least) x k
     (λ m _ p q e.
-        let w = and-parts _ _ e in
-        (keeps-out least most (f .ordered) (f .bounded) (lo x a) (hi x a) m p q (leb-true (ones m) most (w .1)), keeps-in least most (f .ordered) (f .bounded) (lo x a) (hi x a) m q (leb-true least (ones m) (w .0))))
+    let w = and-parts _ _ e in
+    (keeps-out least most (f .ordered) (f .bounded) (lo x a) (hi x a) m p q (leb-true (ones m) most (w .1)), keeps-in least most (f .ordered) (f .bounded) (lo x a) (hi x a) m q (leb-true least (ones m) (w .0))))
     (λ l v. left least most (f .ordered) (f .bounded) (lo x a) (hi x a) (room bd a) (l .bounds a (f .known)) v)

@@ -11,7 +11,7 @@ use lib.Pow.{pow-pos, pow-mono}
 use Rattle.std.proofs.shelf.Tests.{both-ways, not-true, leb-true, eqb-true, eqb-false, le-leb, eq-eqb, ne-eqb, cases-lt, and-parts, cases-eq, cases-bool, and-from, and-right, not-from-true, not-from-false, cond-true, cond-false}
 use Rattle.masks.specs.Masks.{has, lowest, past, stretch, within, without}
 use Rattle.masks.proofs.Counts.{another, first, first-has, one-has}
-use Rattle.masks.proofs.Ends.{lowest-has, lowest-in, lowest-le, past-all, past-in, past-top, stretch-below, stretch-ends, stretch-has, stretch-small}
+use Rattle.masks.proofs.Ends.{lowest-has, lowest-in, lowest-le, past-all, past-in, past-top, stretch-ends, stretch-has, stretch-small}
 use Rattle.masks.proofs.Masks.{has-below, has-single, has-without, within-has}
 use Rattle.masks.proofs.Subsets.{apart-from, has-ext, nonzero, single-has, single-other, single-within, small, within-all, within-both, within-le, within-or, within-or-r, within-self, without-within}
 use Rattle.model.specs.Board.{Board, room}
@@ -59,8 +59,9 @@ row-from k m p f = and-from _ _ (not-from-false _ (ne-eqb m 0 (λ z. omega arith
 -- a stretch that is not empty is one, and so is a single member
 stretch-row : (k s e i : ℕ) → has (stretch s e) i ≡ true → is-row k (stretch s e) ≡ true
 stretch-row k s e i h = row-from k (stretch s e) (let n = eqb-false _ 0 (nonzero _ i h) in omega arith) (λ i v j p q a b.
-    let hj = stretch-below s e j q in
-    stretch-has s e v (omega arith) (omega (arith, stretch-ends s e i p (stretch-below s e i p))) (omega (arith, stretch-ends s e j q hj)))
+    let f = stretch-ends s e i p in
+    let t = stretch-ends s e j q in
+    stretch-has s e v (omega arith) (omega arith) (omega arith))
 
 single-row : (k u : ℕ) → is-row k (2 ^ u) ≡ true
 single-row k u = row-from k (2 ^ u) (pow-pos u) (λ i v j p q a b.
@@ -123,12 +124,12 @@ module _ (l h : ℕ) (bl : l < 2 ^ 64) (z : l ≡ 0 → ⊥) where
   gap-before : (v : ℕ) → has before v ≡ true → (v < lowest l) × (has h v ≡ false)
   gap-before v e =
       let w = and-parts _ _ (sym (has-without (stretch 0 (lowest l)) h v) ∙ e) in
-      (stretch-ends 0 (lowest l) v (w .0) (stretch-below 0 (lowest l) v (w .0)) .1, not-true _ (w .1))
+      (stretch-ends 0 (lowest l) v (w .0) .2, not-true _ (w .1))
 
   gap-after : (v : ℕ) → has after v ≡ true → (past l ≤ v) × (has h v ≡ false)
   gap-after v e =
       let w = and-parts _ _ (sym (has-without (stretch (past l) 64) h v) ∙ e) in
-      (stretch-ends (past l) 64 v (w .0) (stretch-below (past l) 64 v (w .0)) .0, not-true _ (w .1))
+      (stretch-ends (past l) 64 v (w .0) .1, not-true _ (w .1))
 
   -- a row between l and h stays in the block, and has the core
   module _ (k m : ℕ) (bm : m < 2 ^ k) (kk : k ≤ 64) (p : within l m ≡ true) (q : within m h ≡ true) (row : is-row k m ≡ true) where
@@ -159,8 +160,8 @@ module _ (l h : ℕ) (bl : l < 2 ^ 64) (z : l ≡ 0 → ⊥) where
 
     keeps-core : within core m ≡ true
     keeps-core = within-all core m (λ v e.
-        let w = stretch-ends (lowest l) (past l) v e (stretch-below (lowest l) (past l) v e) in
-        row-has k m bm row (lowest l) v (end .0) (within-has l m p _ start) (within-has l m p _ (end .2)) (w .0) (omega (arith, end .1, w .1)))
+        let w = stretch-ends (lowest l) (past l) v e in
+        row-has k m bm row (lowest l) v (end .0) (within-has l m p _ start) (within-has l m p _ (end .2)) (w .1) (omega (arith, end .1)))
 
   -- what is left is the core and the block
   module _ (v : within (bitOr l core) (without h (without h (block l h))) ≡ true) where
@@ -172,19 +173,19 @@ module _ (l h : ℕ) (bl : l < 2 ^ 64) (z : l ≡ 0 → ⊥) where
 
     block-in : (i : ℕ) → has (block l h) i ≡ true → has h i ≡ true
     block-in i e =
-        let s = stretch-below (past before) (lowest after) i e in
-        let w = stretch-ends (past before) (lowest after) i e s in
+        let w = stretch-ends (past before) (lowest after) i e in
+        let s = w .0 in
         elim (cases-bool (has h i)) [
           | inl g ↦ g
           | inr g ↦ elim (cases-lt i (lowest l)) [
             | inl c ↦
                 let b : has before i ≡ true = has-without (stretch 0 (lowest l)) h i ∙ and-from _ _ (stretch-has 0 (lowest l) i s (omega arith) c) (not-from-false _ g) in
-                absurd (omega (arith, past-all before i before-small b, w .0))
+                absurd (omega (arith, past-all before i before-small b))
             | inr c ↦ elim (cases-lt i (past l)) [
               | inl d ↦ core-in i (stretch-has (lowest l) (past l) i s c d)
               | inr d ↦
                   let b : has after i ≡ true = has-without (stretch (past l) 64) h i ∙ and-from _ _ (stretch-has (past l) 64 i s d s) (not-from-false _ g) in
-                  absurd (omega (arith, lowest-le after i b, w .1))
+                  absurd (omega (arith, lowest-le after i b))
             ]
           ]
         ]

@@ -10,7 +10,11 @@ use board::refusal::Refusal;
 pub fn fit_set(d: &Domains, a: u8) -> Result<(), Refusal>
     ensures { λ r. ⌜ outcome r ≡ refusal (set-causes (board (now (d .entry))) a) ⌝ }
 {
-    if a < d.sets() { Ok(()) } else { Err(Refusal::Set) }
+    if a < d.sets() {
+        Ok(())
+    } else {
+        Err(Refusal::Set)
+    }
 }
 
 // Whether two sets of one kind are named.
