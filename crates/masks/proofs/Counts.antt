@@ -1,18 +1,17 @@
 -- Members counted, the first of them, and masks of one member. Assumes nothing.
-use mathlib.Core.Path.{_≡_, refl, sym, ap, _∙_, subst}
-use mathlib.Core.Bool.{Bool, true, false, not, _&&_, _||_, cond, false≢true}
-use mathlib.Core.Logic.{_⊎_, inl, inr}
+use mathlib.Core.Path.{_≡_, refl, sym, ap, _∙_}
+use mathlib.Core.Bool.{Bool, true, false, not, _&&_, cond, false≢true}
+use mathlib.Core.Logic.{inl, inr}
 use Prim.Native.Nat.{ℕ, zero, suc, _+_, _*_, _/_, _%_, _^_, _≤_, _<_}
-use native.Mathlib.Nat.{pow-suc}
 use native.Mathlib.Omega.{arith}
+use native.Mathlib.Nat.{pow-suc}
 use lib.Dec.{eqb}
-use lib.Bits.{bitAnd, and-le-l}
 use lib.Count.{ones, ones-step, ones-cat}
 use lib.Pow.{pow-pos}
-use Rattle.std.proofs.shelf.Tests.{eqb-true, eq-eqb, ne-eqb, cases-bool, cases-eq, and-parts, both-ways, not-true}
-use Rattle.masks.specs.Masks.{has, within, without, tally, Masks}
-use Rattle.masks.proofs.Masks.{bit, half-below, has-and, has-or, has-without, has-single, has-zero, has-full, has-below, has-same, within-has, within-from}
-use Rattle.masks.proofs.Subsets.{small, has-ext, single-has, within-le}
+use Rattle.std.proofs.shelf.Tests.{both-ways, not-true, eqb-true, eq-eqb, ne-eqb, and-parts, cases-eq, cases-bool}
+use Rattle.masks.specs.Masks.{has, tally, within, without}
+use Rattle.masks.proofs.Masks.{bit, half-below, has-same, has-single, has-without, has-zero, within-has}
+use Rattle.masks.proofs.Subsets.{has-ext, single-has, small, within-le}
 
 tally-shift : (p : ℕ → Bool) (k : ℕ) → tally p (suc k) ≡ cond (p 0) 1 0 + tally (λ i. p (suc i)) k
 tally-shift p zero = refl
@@ -133,20 +132,3 @@ another w c ne q = elim (cases-bool (eqb (without c (2 ^ w)) 0)) [
         go true false f g = g
         go false true f g = sym f
         go false false f g = refl
-
-pub masks : Masks
-masks = record {
-  meet = has-and;
-  join = has-or;
-  removal = has-without;
-  single = has-single;
-  none = has-zero;
-  full = has-full;
-  bounded = has-below;
-  same = has-same;
-  subset = within-has;
-  subset-from = within-from;
-  count = ones-tally;
-  fewer = ones-within;
-  one = one-has;
-}

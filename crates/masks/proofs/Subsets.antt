@@ -6,9 +6,9 @@ use Prim.Native.Nat.{ℕ, zero, suc, _+_, _-_, _^_, _<_, _≤_}
 use native.Mathlib.Nat.{pow-suc}
 use native.Mathlib.Omega.{arith}
 use lib.Dec.{eqb}
-use lib.Bits.{bitAnd, bitOr, and-self, and-le-r}
+use lib.Bits.{bitAnd, bitOr, and-self, and-le-r, and-comm}
 use lib.Pow.{pow-mono}
-use Rattle.std.proofs.shelf.Tests.{eqb-true, eq-eqb, ne-eqb, and-parts, and-from, or-left, or-right, or-cases, cases-bool, both-ways, not-true, not-from-false}
+use Rattle.std.proofs.shelf.Tests.{eqb-true, eq-eqb, ne-eqb, and-parts, and-from, or-left, or-right, or-cases, cases-bool, both-ways, not-true, not-false, not-from-false}
 use Rattle.masks.specs.Masks.{has, within, without}
 use Rattle.masks.proofs.Masks.{has-and, has-or, has-without, has-single, has-zero, has-same, within-has, within-from}
 
@@ -90,6 +90,22 @@ within-without s h m w a = within-all s _ (λ i e. has-without h m i ∙ and-fro
 
 pub without-apart : (s h m : ℕ) → within s (without h m) ≡ true → eqb (bitAnd s m) 0 ≡ true
 without-apart s h m w = apart-from s m (λ i e. not-true _ (and-parts _ _ (sym (has-without h m i) ∙ within-has s (without h m) w i e) .1))
+
+-- where nothing is left, all is in the other
+pub within-gone : (h m : ℕ) → without h m ≡ 0 → within h m ≡ true
+within-gone h m z = within-all h m (λ i e. go (has h i) (has m i) e (sym (has-without h m i) ∙ ap (λ n. has n i) z ∙ has-zero i))
+  where
+    go : (p q : Bool) → p ≡ true → (p && not q) ≡ false → q ≡ true
+    go true q e f = not-false q f
+    go false q e f = absurd (false≢true e)
+
+-- two masks that share nothing, either way round
+pub apart-swap : (s t : ℕ) → eqb (bitAnd s t) 0 ≡ true → eqb (bitAnd t s) 0 ≡ true
+apart-swap s t e = ap (λ n. eqb n 0) (and-comm t s) ∙ e
+
+-- less shares nothing either
+pub apart-less : (s t m : ℕ) → eqb (bitAnd s t) 0 ≡ true → within m t ≡ true → eqb (bitAnd s m) 0 ≡ true
+apart-less s t m e w = apart-from s m (λ i h. elim (cases-bool (has m i)) [ inl q ↦ absurd (both-ways _ (apart-has s t i e h) (within-has m t w i q)) | inr q ↦ q ])
 
 -- ---- single members
 

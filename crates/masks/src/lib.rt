@@ -1,8 +1,8 @@
 ghost use mathlib.Core.Path.{_≡_};
-ghost use Prim.Native.Nat.{_-_, _^_, min};
+ghost use Prim.Native.Nat.{_^_};
 ghost use lib.Dec.{eqb, ltb};
 ghost use lib.Count.{ones};
-ghost use Rattle.masks.specs.Masks.{Masks, has, without, within};
+ghost use Rattle.masks.specs.Masks.{Masks, has, without, within, numbers, lowest as leastOf, past as pastOf, stretch as stretchOf};
 
 // The laws of masks as finite sets hold.
 pub fn masks_stand() -> u8
@@ -41,7 +41,7 @@ pub fn is_single(mask: u64) -> bool
 
 // The numbers below n, those below 64 where n is more.
 pub fn all_below(n: u8) -> u64
-    ensures { λ r. ⌜ r ≡ 2 ^ min n 64 - 1 ⌝ }
+    ensures { λ r. ⌜ r ≡ numbers n ⌝ }
 {
     if n >= 64 { u64::MAX } else { (1 << n) - 1 }
 }
@@ -51,4 +51,25 @@ pub fn is_below(mask: u64, n: u8) -> bool
     ensures { λ r. ⌜ r ≡ ltb mask (2 ^ n) ⌝ }
 {
     n >= 64 || mask >> n == 0
+}
+
+// The least member; 64 where there is none.
+pub fn lowest(mask: u64) -> u8
+    ensures { λ r. ⌜ r ≡ leastOf mask ⌝ }
+{
+    mask.trailing_zeros() as u8
+}
+
+// The number after the greatest member; 0 where there is none.
+pub fn past(mask: u64) -> u8
+    ensures { λ r. ⌜ r ≡ pastOf mask ⌝ }
+{
+    (64 - mask.leading_zeros()) as u8
+}
+
+// The numbers from `start` on, up to `end` and without it; none from 64 on.
+pub fn stretch(start: u8, end: u8) -> u64
+    ensures { λ r. ⌜ r ≡ stretchOf start end ⌝ }
+{
+    take_out(all_below(end), all_below(start))
 }

@@ -1,5 +1,4 @@
 -- Layouts that show a choice of a live box supported. Assumes nothing.
--- g with m at place a
 use mathlib.Core.Path.{_≡_, refl, sym, ap, _∙_, subst}
 use mathlib.Core.Bool.{Bool, true, false, not, cond}
 use mathlib.Core.Logic.{inl, inr}
@@ -16,6 +15,7 @@ use Rattle.model.specs.Tight.{Supported}
 use Rattle.model.proofs.Boxes.{index-below, lay-mem, made, made-mem}
 use Rattle.model.proofs.Lists.{tab-at}
 
+-- g with m at place a
 abbrev pub put : ℕ → ℕ → (ℕ → ℕ) → ℕ → ℕ
 put a m g k = cond (eqb k a) m (g k)
 
@@ -115,3 +115,11 @@ module _ (bd : Board) (some : 0 < bd .sensors) (r : Box) where
           let q = ltb-true j (bd .sets) (d .0) in
           let t = w .low j v q (ltb-true v (room bd j) (d .1)) (not-true _ (p .1)) in
           support firsts (t .0) firsts-pick (t .1) (at firsts (t .0) (t .2)) (omitted j v) (and-from _ _ (p .0) (ap (λ m. not (has m v)) (set-made firsts (t .0) j q) ∙ not-from-false _ (t .3)))
+
+      -- it is enough that the lower bounds satisfy the rule, and do so with any one set raised
+      pub raised : (Good : (ℕ → ℕ) → Type 0) → Good (lo r) → ((j : ℕ) → j < bd .sets → Good (raise j)) → Covered Good
+      raised Good g f = record {
+        base = (lo r, lo-fills, g);
+        top = λ j v h e. (raise j, raise-fills j h, f j h, ap (λ m. has m v) (put-same j (hi r j) (lo r)) ∙ e);
+        low = λ j v h q e. (lo r, lo-fills, g, e);
+      }

@@ -1,2 +1,5 @@
 pub mod Fitting
+pub mod ApartRuns
+pub mod CountRuns
+pub mod RowRuns
 pub mod WithinRuns

@@ -1,4 +1,4 @@
-use Rattle.masks.proofs.Counts.{masks}
+use Rattle.masks.proofs.Laws.{masks}
 use Rattle.masks.proofs.masks_stand.Needs as need
 
 pub returns : need.returns
