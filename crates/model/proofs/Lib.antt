@@ -12,3 +12,4 @@ pub mod Mixes
 pub mod Narrowing
 pub mod Cuts
 pub mod Witness
+pub mod Linked
