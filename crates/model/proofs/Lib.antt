@@ -13,3 +13,4 @@ pub mod Narrowing
 pub mod Cuts
 pub mod Witness
 pub mod Linked
+pub mod Bundle

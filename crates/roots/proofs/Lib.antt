@@ -1,3 +1,4 @@
 pub mod Fitting
 pub mod Rests
 pub mod Runs
+pub mod Parts

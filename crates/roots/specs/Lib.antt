@@ -1,1 +1,2 @@
 pub mod Implications
+pub mod Roots
