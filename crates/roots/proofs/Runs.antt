@@ -1,6 +1,6 @@
 -- The run of each implication is its tight box. Assumes nothing.
 use mathlib.Core.Path.{_≡_, refl, sym, ap, _∙_, subst}
-use mathlib.Core.Bool.{Bool, true, false, not, _&&_, _||_, cond, false≢true}
+use mathlib.Core.Bool.{Bool, true, false, not, cond}
 use mathlib.Core.List.{List, [], _∷_}
 use mathlib.Core.Logic.{inl, inr}
 use Prim.Native.Nat.{ℕ, _^_, _<_}
@@ -24,29 +24,15 @@ use Rattle.model.proofs.Linked.{Linked, linked}
 use Rattle.model.proofs.Narrowing.{entries-tight, narrow-cut, narrowed-cut}
 use Rattle.model.proofs.Witness.{covers, firsts, firsts-pick, hi-fills, lo-fills, set-made}
 use Rattle.roots.specs.Implications.{entries, implication-fault, implication-run, implied-by, implied-by-entries, implies, implies-entries}
+use Rattle.roots.proofs.Bools.{no, not-then, off, then}
+use Rattle.roots.proofs.Fitting.{Excludes, Links, excludes, links, two}
+use Rattle.roots.proofs.Resting.{on}
+use Rattle.roots.proofs.Rests.{Backward, Forward, backward-linked, forward-linked}
 use Rattle.roots.specs.declared.implication.Implication.{Implication}
 use Rattle.roots.specs.declared.implication.Implication.the-variants.{Excluded, Implies, ImpliedBy}
-use Rattle.roots.proofs.Fitting.{Excludes, Links, excludes, links, two}
-use Rattle.roots.proofs.Rests.{Backward, Forward, backward-linked, forward-linked}
-
-then : (p q : Bool) → (not p || q) ≡ true → p ≡ true → q ≡ true
-then true q e h = e
-then false q e h = absurd (false≢true h)
-
-not-then : (p q : Bool) → (not p || q) ≡ true → q ≡ false → p ≡ false
-not-then true q e h = sym e ∙ h
-not-then false q e h = refl
-
-off : (p q : Bool) → q ≡ true → (p && not q) ≡ false
-off true q e = ap not e
-off false q e = refl
-
-no : (p : Bool) → (p ≡ true → ⊥) → p ≡ false
-no true f = absurd (f refl)
-no false f = refl
 
 -- no member of a mask is i
-single-apart : (m i : ℕ) → has m i ≡ false → eqb (bitAnd m (2 ^ i)) 0 ≡ true
+pub single-apart : (m i : ℕ) → has m i ≡ false → eqb (bitAnd m (2 ^ i)) 0 ≡ true
 single-apart m i e = apart-from m (2 ^ i) (λ v h. single-other i v (λ z. both-ways _ e (ap (has m) z ∙ h)))
 
 meet-within : (c m : ℕ) → within m c ≡ true → bitAnd c m ≡ m
@@ -164,50 +150,50 @@ module _ (bd : Board) (some : 0 < bd .sensors) (x : Box) (k : Kept bd x) where
             → narrowed (narrow bd) (cond a (limit i may ∷ cond d (claim t may ∷ []) []) (cond b (bar s (2 ^ i) ∷ []) [])) x ≡ tight bd (λ y. implies i (slotOf y i) (setOf y s) (setOf y t)) x
         go true b true a z d = by (implies i) (limit i may ∷ claim t may ∷ [])
             (λ y o n e.
-                let inq = sure-in a y n e in
-                let inm = may-slot y n inq in
-                (inm, (subst (λ m. within m (setOf y t) ≡ true) (sym (one-has may (slotOf y i) (eqb-true (ones may) 1 d) inm)) (single-within (slotOf y i) (setOf y t) inq), tt)))
+            let inq = sure-in a y n e in
+            let inm = may-slot y n inq in
+            (inm, (subst (λ m. within m (setOf y t) ≡ true) (sym (one-has may (slotOf y i) (eqb-true (ones may) 1 d) inm)) (single-within (slotOf y i) (setOf y t) inq), tt)))
             (λ lr.
-                let q = both may may-part (claim t may) (placed-t may) lr in
-                let l = first-live may may-part (claim t may) (placed-t may) lr in
-                let c = both-cand may may-part (claim t may) (placed-t may) lr (claim-cand t may _ i) in
-                let hi-t = ap (λ z. hi z t) (q .1) ∙ claim-high bd some _ l t may (on .second) t ∙ limit-high i may x t in
-                let lo-t = ap (λ z. lo z t) (q .1) ∙ claim-at bd some _ l t may (on .second) in
-                let lo-s = ap (λ z. lo z s) (q .1) ∙ claim-there bd some _ l t may (on .second) s (two bd i s t on) ∙ limit-low i may x s in
-                forwards _ lr (record {
-                  sure = λ _ w e. ap (λ m. has m w) hi-t ∙ may-has w (sym (ap (λ m. has m w) c) ∙ e) .1;
-                  sole = λ _ _ w e. ap (λ m. has m w) lo-t ∙ has-or _ may w ∙ or-right _ _ (sym (ap (λ m. has m w) c) ∙ e);
-                  maybe = λ f _. absurd (both-ways _ f (ap (λ m. has m i) lo-s ∙ a));
-                }))
+            let q = both may may-part (claim t may) (placed-t may) lr in
+            let l = first-live may may-part (claim t may) (placed-t may) lr in
+            let c = both-cand may may-part (claim t may) (placed-t may) lr (claim-cand t may _ i) in
+            let hi-t = ap (λ z. hi z t) (q .1) ∙ claim-high bd some _ l t may (on .second) t ∙ limit-high i may x t in
+            let lo-t = ap (λ z. lo z t) (q .1) ∙ claim-at bd some _ l t may (on .second) in
+            let lo-s = ap (λ z. lo z s) (q .1) ∙ claim-there bd some _ l t may (on .second) s (two bd i s t on) ∙ limit-low i may x s in
+            forwards _ lr (record {
+              sure = λ _ w e. ap (λ m. has m w) hi-t ∙ may-has w (sym (ap (λ m. has m w) c) ∙ e) .1;
+              sole = λ _ _ w e. ap (λ m. has m w) lo-t ∙ has-or _ may w ∙ or-right _ _ (sym (ap (λ m. has m w) c) ∙ e);
+              maybe = λ f _. absurd (both-ways _ f (ap (λ m. has m i) lo-s ∙ a));
+            }))
         go true b false a z d = by (implies i) (limit i may ∷ [])
             (λ y o n e. (may-slot y n (sure-in a y n e), tt))
             (λ lr.
-                let c = alone-cand may may-part lr in
-                forwards _ lr (record {
-                  sure = λ _ w e. ap (λ m. has m w) (alone-high may may-part lr t) ∙ may-has w (sym (ap (λ m. has m w) c) ∙ e) .1;
-                  sole = λ _ o w e. absurd (eqb-false (ones may) 1 d (sym (ap ones c) ∙ o));
-                  maybe = λ f _. absurd (both-ways _ f (ap (λ m. has m i) (alone-low may may-part lr s) ∙ a));
-                }))
+            let c = alone-cand may may-part lr in
+            forwards _ lr (record {
+              sure = λ _ w e. ap (λ m. has m w) (alone-high may may-part lr t) ∙ may-has w (sym (ap (λ m. has m w) c) ∙ e) .1;
+              sole = λ _ o w e. absurd (eqb-false (ones may) 1 d (sym (ap ones c) ∙ o));
+              maybe = λ f _. absurd (both-ways _ f (ap (λ m. has m i) (alone-low may may-part lr s) ∙ a));
+            }))
         go false true d a z _ = by (implies i) (bar s (2 ^ i) ∷ [])
             (λ y o n e. (single-apart (setOf y s) i (no _ (λ h. both-ways (has may (slotOf y i)) (ap (λ m. has m (slotOf y i)) (eqb-true may 0 z) ∙ has-zero (slotOf y i)) (may-slot y n (then _ _ e h)))), tt))
             (λ lr.
-                let c = narrowed-cut bd some (bar s (2 ^ i) ∷ []) x (placed-s (2 ^ i), tt) k lr in
-                let low = ap (λ z. has (lo z s) i) (c .1) ∙ ap (λ m. has m i) (bar-low bd some x (c .0) s (2 ^ i) (on .first) s) ∙ a in
-                let high = ap (λ z. has (hi z s) i) (c .1) ∙ ap (λ m. has m i) (bar-at bd some x (c .0) s (2 ^ i) (on .first)) ∙ has-without (hi x s) (2 ^ i) i ∙ off _ _ (single-has i) in
-                forwards _ lr (record {
-                  sure = λ t w e. absurd (both-ways _ low t);
-                  sole = λ t o w e. absurd (both-ways _ low t);
-                  maybe = λ f h. absurd (both-ways _ high h);
-                }))
+            let c = narrowed-cut bd some (bar s (2 ^ i) ∷ []) x (placed-s (2 ^ i), tt) k lr in
+            let low = ap (λ z. has (lo z s) i) (c .1) ∙ ap (λ m. has m i) (bar-low bd some x (c .0) s (2 ^ i) (on .first) s) ∙ a in
+            let high = ap (λ z. has (hi z s) i) (c .1) ∙ ap (λ m. has m i) (bar-at bd some x (c .0) s (2 ^ i) (on .first)) ∙ has-without (hi x s) (2 ^ i) i ∙ off _ _ (single-has i) in
+            forwards _ lr (record {
+              sure = λ t w e. absurd (both-ways _ low t);
+              sole = λ t o w e. absurd (both-ways _ low t);
+              maybe = λ f h. absurd (both-ways _ high h);
+            }))
         go false false d a z _ = by (implies i) [] (λ y o n e. tt)
             (λ lr.
-                let u = first may may in
-                let p = may-has u (first-has may may (small may) z) in
-                forwards x lr (record {
-                  sure = λ t w e. absurd (both-ways _ a t);
-                  sole = λ t o w e. absurd (both-ways _ a t);
-                  maybe = λ f h. (u, p .0, p .1);
-                }))
+            let u = first may may in
+            let p = may-has u (first-has may may (small may) z) in
+            forwards x lr (record {
+              sure = λ t w e. absurd (both-ways _ a t);
+              sole = λ t o w e. absurd (both-ways _ a t);
+              maybe = λ f h. (u, p .0, p .1);
+            }))
 
     -- ---- slot in t implies in s
 
@@ -236,53 +222,56 @@ module _ (bd : Board) (some : 0 < bd .sensors) (x : Box) (k : Kept bd x) where
             → narrowed (narrow bd) (cond a (cond b (claim s (2 ^ i) ∷ []) []) (limit i free ∷ cond d (bar t free ∷ []) [])) x ≡ tight bd (λ y. implied-by i (slotOf y i) (setOf y s) (setOf y t)) x
         go false b true a z d = by (implied-by i) (limit i free ∷ bar t free ∷ [])
             (λ y o n e.
-                let q = sure-out a y n e in
-                let m = free-slot y n q in
-                (m, (subst (λ m. eqb (bitAnd (setOf y t) m) 0 ≡ true) (sym (one-has free (slotOf y i) (eqb-true (ones free) 1 d) m)) (single-apart (setOf y t) (slotOf y i) q), tt)))
+            let q = sure-out a y n e in
+            let m = free-slot y n q in
+            (m, (subst (λ m. eqb (bitAnd (setOf y t) m) 0 ≡ true) (sym (one-has free (slotOf y i) (eqb-true (ones free) 1 d) m)) (single-apart (setOf y t) (slotOf y i) q), tt)))
             (λ lr.
-                let q = both free free-part (bar t free) (placed-t free) lr in
-                let l = first-live free free-part (bar t free) (placed-t free) lr in
-                let c = both-cand free free-part (bar t free) (placed-t free) lr (bar-cand t free _ i) in
-                let lo-t = ap (λ z. lo z t) (q .1) ∙ bar-low bd some _ l t free (on .second) t ∙ limit-low i free x t in
-                let hi-t = ap (λ z. hi z t) (q .1) ∙ bar-at bd some _ l t free (on .second) in
-                let hi-s = ap (λ z. hi z s) (q .1) ∙ bar-there bd some _ l t free (on .second) s (two bd i s t on) ∙ limit-high i free x s in
-                backwards _ lr (record {
-                  sure = λ _ w e. ap (λ m. has m w) lo-t ∙ free-has w (sym (ap (λ m. has m w) c) ∙ e) .1;
-                  sole = λ _ _ w e. ap (λ m. has m w) hi-t ∙ has-without _ free w ∙ off _ _ (sym (ap (λ m. has m w) c) ∙ e);
-                  maybe = λ h _. absurd (both-ways _ (ap (λ m. has m i) hi-s ∙ a) h);
-                }))
+            let q = both free free-part (bar t free) (placed-t free) lr in
+            let l = first-live free free-part (bar t free) (placed-t free) lr in
+            let c = both-cand free free-part (bar t free) (placed-t free) lr (bar-cand t free _ i) in
+            let lo-t = ap (λ z. lo z t) (q .1) ∙ bar-low bd some _ l t free (on .second) t ∙ limit-low i free x t in
+            let hi-t = ap (λ z. hi z t) (q .1) ∙ bar-at bd some _ l t free (on .second) in
+            let hi-s = ap (λ z. hi z s) (q .1) ∙ bar-there bd some _ l t free (on .second) s (two bd i s t on) ∙ limit-high i free x s in
+            backwards _ lr (record {
+              sure = λ _ w e. ap (λ m. has m w) lo-t ∙ free-has w (sym (ap (λ m. has m w) c) ∙ e) .1;
+              sole = λ _ _ w e. ap (λ m. has m w) hi-t ∙ has-without _ free w ∙ off _ _ (sym (ap (λ m. has m w) c) ∙ e);
+              maybe = λ h _. absurd (both-ways _ (ap (λ m. has m i) hi-s ∙ a) h);
+            }))
         go false b false a z d = by (implied-by i) (limit i free ∷ [])
             (λ y o n e. (free-slot y n (sure-out a y n e), tt))
             (λ lr.
-                let c = alone-cand free free-part lr in
-                backwards _ lr (record {
-                  sure = λ _ w e. ap (λ m. has m w) (alone-low free free-part lr t) ∙ free-has w (sym (ap (λ m. has m w) c) ∙ e) .1;
-                  sole = λ _ o w e. absurd (eqb-false (ones free) 1 d (sym (ap ones c) ∙ o));
-                  maybe = λ h _. absurd (both-ways _ (ap (λ m. has m i) (alone-high free free-part lr s) ∙ a) h);
-                }))
+            let c = alone-cand free free-part lr in
+            backwards _ lr (record {
+              sure = λ _ w e. ap (λ m. has m w) (alone-low free free-part lr t) ∙ free-has w (sym (ap (λ m. has m w) c) ∙ e) .1;
+              sole = λ _ o w e. absurd (eqb-false (ones free) 1 d (sym (ap ones c) ∙ o));
+              maybe = λ h _. absurd (both-ways _ (ap (λ m. has m i) (alone-high free free-part lr s) ∙ a) h);
+            }))
         go true true d a z _ = by (implied-by i) (claim s (2 ^ i) ∷ [])
-            (λ y o n e. (single-within i (setOf y s) (elim (cases-bool (has (setOf y t) (slotOf y i))) [
-              | inl h ↦ then _ _ e h
-              | inr h ↦ absurd (both-ways (has free (slotOf y i)) (ap (λ m. has m (slotOf y i)) (eqb-true free 0 z) ∙ has-zero (slotOf y i)) (free-slot y n h))
-            ]), tt))
+            (λ y o n e. (
+              single-within i (setOf y s) (elim (cases-bool (has (setOf y t) (slotOf y i))) [
+                | inl h ↦ then _ _ e h
+                | inr h ↦ absurd (both-ways (has free (slotOf y i)) (ap (λ m. has m (slotOf y i)) (eqb-true free 0 z) ∙ has-zero (slotOf y i)) (free-slot y n h))
+              ]),
+              tt,
+            ))
             (λ lr.
-                let c = narrowed-cut bd some (claim s (2 ^ i) ∷ []) x (placed-s (2 ^ i), tt) k lr in
-                let high = ap (λ z. has (hi z s) i) (c .1) ∙ ap (λ m. has m i) (claim-high bd some x (c .0) s (2 ^ i) (on .first) s) ∙ a in
-                let low = ap (λ z. has (lo z s) i) (c .1) ∙ ap (λ m. has m i) (claim-at bd some x (c .0) s (2 ^ i) (on .first)) ∙ has-or (lo x s) (2 ^ i) i ∙ or-right _ _ (single-has i) in
-                backwards _ lr (record {
-                  sure = λ f w e. absurd (both-ways _ f high);
-                  sole = λ f o w e. absurd (both-ways _ f high);
-                  maybe = λ h f. absurd (both-ways _ f low);
-                }))
+            let c = narrowed-cut bd some (claim s (2 ^ i) ∷ []) x (placed-s (2 ^ i), tt) k lr in
+            let high = ap (λ z. has (hi z s) i) (c .1) ∙ ap (λ m. has m i) (claim-high bd some x (c .0) s (2 ^ i) (on .first) s) ∙ a in
+            let low = ap (λ z. has (lo z s) i) (c .1) ∙ ap (λ m. has m i) (claim-at bd some x (c .0) s (2 ^ i) (on .first)) ∙ has-or (lo x s) (2 ^ i) i ∙ or-right _ _ (single-has i) in
+            backwards _ lr (record {
+              sure = λ f w e. absurd (both-ways _ f high);
+              sole = λ f o w e. absurd (both-ways _ f high);
+              maybe = λ h f. absurd (both-ways _ f low);
+            }))
         go true false d a z _ = by (implied-by i) [] (λ y o n e. tt)
             (λ lr.
-                let u = first free free in
-                let p = free-has u (first-has free free (small free) z) in
-                backwards x lr (record {
-                  sure = λ f w e. absurd (both-ways _ f a);
-                  sole = λ f o w e. absurd (both-ways _ f a);
-                  maybe = λ h f. (u, p .0, p .1);
-                }))
+            let u = first free free in
+            let p = free-has u (first-has free free (small free) z) in
+            backwards x lr (record {
+              sure = λ f w e. absurd (both-ways _ f a);
+              sole = λ f o w e. absurd (both-ways _ f a);
+              maybe = λ h f. (u, p .0, p .1);
+            }))
 
 -- an implication that fits
 pub implication-tight : (bd : Board) → 0 < bd .sensors → (q : Implication) → implication-fault bd q ≡ 0 → (x : Box) → Kept bd x → narrowed (narrow bd) (entries q x) x ≡ implication-run bd q x

@@ -1,2 +1,3 @@
 pub mod Implications
 pub mod Roots
+pub mod Exact

@@ -24,6 +24,29 @@ pub enum Implication {
     ImpliedBy { sensor: u8, s: u8, t: u8 },
 }
 
+pub impl Rule for Implication as ImplicationRule {
+    ghost fault = { implication-fault };
+
+    ghost holds = { implied };
+
+    ghost run = { implication-run };
+
+    fn fit(&self, d: &Domains) -> Result<(), Refusal> {
+        match *self {
+            Implication::Excluded { sensor, s } => fit_excluded(d, sensor, s),
+            Implication::Implies { sensor, s, t } => fit_linked(d, sensor, s, t),
+            Implication::ImpliedBy { sensor, s, t } => fit_linked(d, sensor, s, t),
+        }
+    }
+
+    fn narrow(&self, d: &mut Domains) -> bool {
+        match self.fit(d) {
+            Ok(()) => infer(d, *self),
+            Err(_) => false,
+        }
+    }
+}
+
 // Whether a sensor and a set of sensors are named.
 fn fit_excluded(d: &Domains, sensor: u8, s: u8) -> Result<(), Refusal>
     ensures { λ r. ⌜ outcome r ≡ refusal (excluded-causes (board (now (d .entry))) sensor s) ⌝ }
@@ -54,29 +77,6 @@ fn fit_linked(d: &Domains, sensor: u8, s: u8, t: u8) -> Result<(), Refusal>
         return Err(Refusal::Kind);
     }
     Ok(())
-}
-
-pub impl Rule for Implication as ImplicationRule {
-    ghost fault = { implication-fault };
-
-    ghost holds = { implied };
-
-    ghost run = { implication-run };
-
-    fn fit(&self, d: &Domains) -> Result<(), Refusal> {
-        match *self {
-            Implication::Excluded { sensor, s } => fit_excluded(d, sensor, s),
-            Implication::Implies { sensor, s, t } => fit_linked(d, sensor, s, t),
-            Implication::ImpliedBy { sensor, s, t } => fit_linked(d, sensor, s, t),
-        }
-    }
-
-    fn narrow(&self, d: &mut Domains) -> bool {
-        match self.fit(d) {
-            Ok(()) => infer(d, *self),
-            Err(_) => false,
-        }
-    }
 }
 
 // What an implication that fits says of the box.

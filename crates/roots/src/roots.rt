@@ -9,6 +9,7 @@ ghost use Rattle.board.specs.Numbers.{outcome};
 ghost use Rattle.board.specs.Model.{board, model};
 ghost use Rattle.roots.specs.Implications.{implication-fault, implication-run};
 ghost use Rattle.roots.specs.Roots.{roots-causes, roots-fault, roots-holds, roots-run, implications, Roots-splits};
+ghost use Rattle.roots.specs.Exact.{Decided-exact};
 use crate::implication::Implication;
 use crate::implication::ImplicationRule;
 use board::domains::Domains;
@@ -98,6 +99,13 @@ fn list_parts(parts: &mut [Implication], sensors: u8, g: u64, s: u8, t: u8) -> u
 // A Roots rule holds exactly where all its implications do.
 pub fn roots_split() -> u8
     ensures { λ _. ⌜ Roots-splits ⌝ }
+{
+    0
+}
+
+// After a settle that is not a dead end, a Roots rule whose slot set is decided supports every choice left.
+pub fn decided_stands() -> u8
+    ensures { λ _. ⌜ Decided-exact ⌝ }
 {
     0
 }
