@@ -351,7 +351,7 @@ module _ (bd : Board) (some : 0 < bd .sensors) (r : Roots) (b : Box) (at : Resti
 
   slots-sure : Slots-decided bd r b → Members-sure bd r b
   slots-sure d i h e = within-all (cand b i) (lo b (r .t)) (λ w c.
-      ap (λ m. has m w) d ∙ member-may bd some r b at i h (grouped bd some r b at i (in-high bd some r b at i e)) e w c)
+      ap (λ m. has m w) (eqb-true (lo b (r .t)) (hi b (r .t)) d) ∙ member-may bd some r b at i h (grouped bd some r b at i (in-high bd some r b at i e)) e w c)
 
   sensors-sure : Sensors-decided bd r b → Members-sure bd r b
   sensors-sure d i h e =

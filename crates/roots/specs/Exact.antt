@@ -6,7 +6,7 @@ use lib.Bits.{bitAnd}
 use lib.Count.{ones}
 use Rattle.masks.specs.Masks.{has, within}
 use Rattle.model.specs.Board.{Board}
-use Rattle.model.specs.Box.{Box, Choice, Live, cand, lo, hi, choice}
+use Rattle.model.specs.Box.{Box, Choice, Live, cand, lo, hi, choice, decided}
 use Rattle.model.specs.Tight.{Supported}
 use Rattle.roots.specs.Roots.{roots-fault, roots-holds, roots-run}
 use Rattle.roots.specs.declared.roots.Roots.{Roots}
@@ -24,7 +24,7 @@ Exact bd r b = (c : Choice) → choice bd b c ≡ true → Supported bd (roots-h
 
 -- the slot set is decided
 abbrev pub Slots-decided : Board → Roots → Box → Type 0
-Slots-decided bd r b = lo b (r .t) ≡ hi b (r .t)
+Slots-decided bd r b = decided b (r .t) ≡ true
 
 -- each sensor surely in S has all its candidates surely in T
 abbrev pub Members-sure : Board → Roots → Box → Type 0
