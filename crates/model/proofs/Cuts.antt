@@ -17,6 +17,24 @@ use Rattle.model.specs.Entries.{bar, claim, cut, limit}
 use Rattle.model.proofs.Entries.{at-set, live-bounds, live-some}
 use Rattle.model.proofs.Lists.{every-from}
 
+-- ---- what an entry leaves alone
+
+pub limit-low : (i m : ℕ) (b : Box) (k : ℕ) → lo (cut (limit i m) b) k ≡ lo b k
+unfolding cut
+limit-low i m b k = refl
+
+pub limit-high : (i m : ℕ) (b : Box) (k : ℕ) → hi (cut (limit i m) b) k ≡ hi b k
+unfolding cut
+limit-high i m b k = refl
+
+pub claim-cand : (j m : ℕ) (b : Box) (k : ℕ) → cand (cut (claim j m) b) k ≡ cand b k
+unfolding cut
+claim-cand j m b k = refl
+
+pub bar-cand : (j m : ℕ) (b : Box) (k : ℕ) → cand (cut (bar j m) b) k ≡ cand b k
+unfolding cut
+bar-cand j m b k = refl
+
 module _ (bd : Board) (some : 0 < bd .sensors) (b : Box) (l : Live bd b) where
   -- ---- a limit
 

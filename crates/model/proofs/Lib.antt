@@ -13,3 +13,5 @@ pub mod Narrowing
 pub mod Cuts
 pub mod Witness
 pub mod OneSet
+pub mod Linked
+pub mod Bundle

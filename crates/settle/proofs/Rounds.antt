@@ -6,6 +6,7 @@ use Prim.Native.Nat.{ℕ, _+_, _≤_, _<_}
 use lib.ListN.{length, getD, take}
 use lib.Seq.{take-all}
 use Rattle.std.specs.shelf.Lists.{All}
+use Rattle.std.proofs.shelf.Tests.{or-right}
 use Rattle.std.proofs.shelf.Lists.{map-more}
 use Rattle.model.specs.Board.{Board}
 use Rattle.model.specs.Box.{Box, Inside, Kept, choice, size}
@@ -80,14 +81,15 @@ module _ {R : Type 0} {fault : Board → R → ℕ} {holds : Board → R → Lay
   abbrev order : Ordered (Kept (board a)) (Fewer (board a) (some a)) (size (board a))
   order = ordered (board a) (some a)
 
-  pub record Settles (b : Domains) : Type 0 where
+  pub record Settles (b : Domains) (moved : Bool) : Type 0 where
     pub board-same : board b ≡ board a
     pub going : Going (board a) table (model a) (model b)
+    pub since : Progress (board a) moved (model a) (model b)
 
-  pub start : Settles a
-  start = record { board-same = refl; going = record { kept = is-kept a; inside = ordering (board a) (some a) .itself (model a) (is-kept a); above = λ t k i f. i } }
+  pub start : Settles a false
+  start = record { board-same = refl; since = progress-none (board a) (some a) (model a); going = record { kept = is-kept a; inside = ordering (board a) (some a) .itself (model a) (is-kept a); above = λ t k i f. i } }
 
-  module _ (b c : Domains) (moved : Bool) (s : Settles b) (w : Sofar fault run rs b c moved) where
+  module _ (b c : Domains) (before moved : Bool) (s : Settles b before) (w : Sofar fault run rs b c moved) where
     result : model c ≡ round table (model b)
     result = w .result ∙ ap (λ o. round (map (asked fault run o) rs) (model b)) (s .board-same)
 
@@ -106,13 +108,20 @@ module _ {R : Type 0} {fault : Board → R → ℕ} {holds : Board → R → Lay
               (from (board a) (some a) t (model b) kt (g .kept) (g .above t kt i f)) f);
         }
 
-    pub again : Settles c
-    again = record { board-same = w .board-same ∙ s .board-same; going = subst (Going (board a) table (model a)) (sym result) going-on }
+    pub again : moved ≡ true → Settles c true
+    again t = record {
+      board-same = w .board-same ∙ s .board-same;
+      going = subst (Going (board a) table (model a)) (sym result) going-on;
+      since = subst (λ m. Progress (board a) m (model a) (model c)) (or-right before moved t) (progress-join (board a) (some a) before moved (model a) (model b) (model c) (s .since) progress);
+    }
 
     pub falls : moved ≡ true → size (board a) (model c) < size (board a) (model b)
     falls t = progress .falls t
 
     -- a round that changes nothing is the last
+    pub ends : moved ≡ false → Progress (board a) before (model a) (model c)
+    ends t = subst (Progress (board a) before (model a)) (sym (progress .still t)) (s .since)
+
     pub rests : moved ≡ false → model c ≡ settled (board a) table (model a)
     rests t =
         let g = s .going in

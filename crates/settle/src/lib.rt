@@ -6,13 +6,18 @@ ghost use Rattle.board.specs.Model.{board, model};
 use board::domains::Domains;
 use rule::Rule;
 
-// Brings the box to rest: the largest box inside it that no fitting rule's run changes.
+// Brings the box to rest: the largest box inside it that no fitting rule's run changes; whether that changed the box.
 // Each rule's fit is asked anew at each run, and a misfit skipped. The order of the runs is free; the result does not show it.
-pub fn settle<R: Rule>(rules: &[R], d: &mut Domains)
+pub fn settle<R: Rule>(rules: &[R], d: &mut Domains) -> bool
     ensures board { λ _. ⌜ board (now (d .exit)) ≡ board (now (d .entry)) ⌝ }
     ensures model { λ _. ⌜ model (now (d .exit)) ≡ settled (board (now (d .entry))) (map (asked fault run (board (now (d .entry)))) (now (rules .entry))) (model (now (d .entry))) ⌝ }
+    ensures moved { λ r. ⌜ Progress (board (now (d .entry))) r (model (now (d .entry))) (model (now (d .exit))) ⌝ }
 {
-    while round(rules, d) {}
+    let mut moved = false;
+    while round(rules, d) {
+        moved = true;
+    }
+    moved
 }
 
 // Each rule once, in the order of the table; whether that changed the box.

@@ -3,8 +3,8 @@ use Rattle.board.specs.Model.{board, model}
 use Rattle.settle.proofs.Rounds.{Settles}
 use Rattle.settle.proofs.settle.Given as given
 
-abbrev pub Inv-loop : given.InvT-loop
-Inv-loop g l = Settles (g .R·Rule·met .lawful) (l .rules) (l .entry .d) (l .d)
+abbrev pub Inv-loop-moved : given.InvT-loop-moved
+Inv-loop-moved g l = Settles (g .R·Rule·met .lawful) (l .rules) (l .entry .d) (l .d) (l .moved)
 
-abbrev pub μ-loop : given.MeasureT-loop
-μ-loop g l = size (board (l .entry .d)) (model (l .d))
+abbrev pub μ-loop-moved : given.MeasureT-loop-moved
+μ-loop-moved g l = size (board (l .entry .d)) (model (l .d))

@@ -1,0 +1,3 @@
+pub mod Implications
+pub mod Roots
+pub mod Exact

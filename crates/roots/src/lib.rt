@@ -1,0 +1,2 @@
+pub mod implication;
+pub mod roots;
