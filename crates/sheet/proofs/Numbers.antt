@@ -1,0 +1,69 @@
+-- Numbers as bytes, for any width.
+use mathlib.Core.Path.{_≡_, refl, sym, ap, _∙_}
+use mathlib.Core.List.{List, [], _∷_, _++_}
+use mathlib.Core.Bool.{Bool, true, false, cond}
+use Prim.Native.Nat.{ℕ, zero, suc, _+_, _-_, _*_, _/_, _%_, _^_, _<_, _≤_, min}
+use native.Mathlib.Nat.{mod-eq-of-lt, mul-add-div-right, mul-add-mod-self-right, mul-assoc, pow-succ'}
+use native.Mathlib.Omega.{arith}
+use lib.Arith.{mod-mul, digits-div, digits-lt}
+use lib.ListN.{length, getD, take, drop, length-take, length-drop}
+use Rattle.std.proofs.shelf.Lists.{drop-more, drop-all, take-at, take-all}
+use Rattle.std.proofs.shelf.Parts.{between-to-end}
+use Rattle.std.proofs.shelf.Tests.{cases-lt}
+use Rattle.std.proofs.shelf.Elements.{all-getD, all-take, all-drop}
+use mathlib.Core.Logic.{inl, inr}
+use Rattle.sheet.specs.Layout.{value, digits, Bytes}
+
+-- so many elements, from a place on
+abbrev pub items : List ℕ → ℕ → ℕ → List ℕ
+items xs i zero = []
+items xs i (suc n) = getD xs i 0 ∷ items xs (i + 1) n
+
+pub take-items : (xs : List ℕ) (i n : ℕ) → i + n ≤ length xs → take n (drop i xs) ≡ items xs i n
+take-items xs i zero h = refl
+take-items xs i (suc n) h = ap (take (suc n)) (drop-more xs i 0 (omega arith)) ∙ ap (λ t. getD xs i 0 ∷ t) (take-items xs (i + 1) n (omega arith))
+
+-- a part that begins no later than the end, as the code takes it
+pub part-from : (xs : List ℕ) (at m : ℕ) → m ≡ min at (length xs) → take (length xs - m) (drop m xs) ≡ drop at xs
+part-from xs at m e = between-to-end xs m (length xs) (omega arith) ∙ (elim (cases-lt at (length xs)) [
+  | inl h ↦ (let s : m ≡ at = omega arith in ap (λ k. drop k xs) s)
+  | inr h ↦ drop-all m xs (omega arith) ∙ sym (drop-all at xs h)
+])
+
+pub length-digits : (n x : ℕ) → length (digits n x) ≡ n
+length-digits zero x = refl
+length-digits (suc n) x = ap suc (length-digits n x)
+
+pow-pos : (n : ℕ) → 0 < 256 ^ n
+pow-pos zero = omega arith
+pow-pos (suc n) = omega (arith, pow-pos n)
+
+value-mod : (n x : ℕ) → value (digits n x) ≡ x % 256 ^ n
+value-mod zero x = omega arith
+value-mod (suc n) x =
+    let l : length (digits n x) ≡ n = length-digits n x in
+    ap (λ k. (x / 256 ^ n % 256) * 256 ^ k + value (digits n x)) l ∙ ap (λ v. (x / 256 ^ n % 256) * 256 ^ n + v) (value-mod n x) ∙ sym (mod-mul x {m = 256} {c = 256 ^ n} (omega arith) (pow-pos n)) ∙ ap (λ p. x % p) (sym (pow-succ' 256 n))
+
+pub value-digits : (n x : ℕ) → x < 256 ^ n → value (digits n x) ≡ x
+value-digits n x h = value-mod n x ∙ mod-eq-of-lt h
+
+value-lt : (xs : List ℕ) → Bytes xs → value xs < 256 ^ length xs
+value-lt [] b = omega arith
+value-lt (x ∷ xs) b = rw pow-succ' (digits-lt (b .0) (value-lt xs (b .1)))
+
+digits-add : (n y v : ℕ) → digits n (y * 256 ^ n + v) ≡ digits n v
+digits-add zero y v = refl
+digits-add (suc n) y v =
+    let p : ℕ = 256 ^ n in
+    let e : y * 256 ^ suc n ≡ y * 256 * p = ap (λ t. y * t) (pow-succ' 256 n) ∙ sym (mul-assoc y 256 p) in
+    let first : (y * 256 ^ suc n + v) / p % 256 ≡ v / p % 256 = ap (λ t. (t + v) / p % 256) e ∙ ap (λ t. t % 256) (mul-add-div-right (pow-pos n) (y * 256) v) ∙ mul-add-mod-self-right y 256 (v / p) in
+    let rest : digits n (y * 256 ^ suc n + v) ≡ digits n v = ap (λ t. digits n (t + v)) e ∙ digits-add n (y * 256) v in
+    cc
+
+pub digits-value : (xs : List ℕ) → Bytes xs → digits (length xs) (value xs) ≡ xs
+digits-value [] b = refl
+digits-value (x ∷ xs) b =
+    let p : ℕ = 256 ^ length xs in
+    let first : (x * p + value xs) / p % 256 ≡ x = ap (λ t. t % 256) (digits-div x (value-lt xs (b .1))) ∙ mod-eq-of-lt (b .0) in
+    let rest : digits (length xs) (x * p + value xs) ≡ xs = digits-add (length xs) x (value xs) ∙ digits-value xs (b .1) in
+    cc
