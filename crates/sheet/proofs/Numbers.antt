@@ -12,7 +12,7 @@ use Rattle.std.proofs.shelf.Parts.{between-to-end}
 use Rattle.std.proofs.shelf.Tests.{cases-lt}
 use Rattle.std.proofs.shelf.Elements.{all-getD, all-take, all-drop}
 use mathlib.Core.Logic.{inl, inr}
-use Rattle.sheet.specs.Layout.{value, digits, Bytes}
+use Rattle.sheet.specs.Layout.{value, digits, Bytes, word-width, mask-width}
 
 -- so many elements, from a place on
 abbrev pub items : List ℕ → ℕ → ℕ → List ℕ
@@ -67,3 +67,19 @@ digits-value (x ∷ xs) b =
     let first : (x * p + value xs) / p % 256 ≡ x = ap (λ t. t % 256) (digits-div x (value-lt xs (b .1))) ∙ mod-eq-of-lt (b .0) in
     let rest : digits (length xs) (x * p + value xs) ≡ xs = digits-add (length xs) x (value xs) ∙ digits-value xs (b .1) in
     cc
+
+-- a part that ends no later than the end, as the code takes it
+pub part-to : (xs : List ℕ) (n m : ℕ) → m ≡ min n (length xs) → take m xs ≡ take n xs
+part-to xs n m e = elim (cases-lt n (length xs)) [
+  | inl h ↦ (let s : m ≡ n = omega arith in ap (λ k. take k xs) s)
+  | inr h ↦ take-all m xs (omega arith) ∙ sym (take-all n xs h)
+]
+
+-- the bytes of a word and of a mask, as the code makes them
+pub word-bytes : (x : ℕ) (bs : List ℕ) → bs ≡ (x / 16777216 % 256) ∷ (x / 65536 % 256) ∷ (x / 256 % 256) ∷ (x % 256) ∷ [] → bs ≡ digits word-width x
+unfolding word-width
+word-bytes x bs e = let z : x / 1 ≡ x = omega arith in e ∙ ap (λ t. (x / 16777216 % 256) ∷ (x / 65536 % 256) ∷ (x / 256 % 256) ∷ (t % 256) ∷ []) (sym z)
+
+pub mask-bytes : (x : ℕ) (bs : List ℕ) → bs ≡ (x / 72057594037927936 % 256) ∷ (x / 281474976710656 % 256) ∷ (x / 1099511627776 % 256) ∷ (x / 4294967296 % 256) ∷ (x / 16777216 % 256) ∷ (x / 65536 % 256) ∷ (x / 256 % 256) ∷ (x % 256) ∷ [] → bs ≡ digits mask-width x
+unfolding mask-width
+mask-bytes x bs e = let z : x / 1 ≡ x = omega arith in e ∙ ap (λ t. (x / 72057594037927936 % 256) ∷ (x / 281474976710656 % 256) ∷ (x / 1099511627776 % 256) ∷ (x / 4294967296 % 256) ∷ (x / 16777216 % 256) ∷ (x / 65536 % 256) ∷ (x / 256 % 256) ∷ (t % 256) ∷ []) (sym z)

@@ -49,6 +49,13 @@ greatest-small k h =
     let b = known-bounds k h in
     all-getD (λ (p : ℕ × ℕ). p .1 < 256) lengths k (0, 0) (omega arith) (omega arith, (omega arith, (omega arith, (omega arith, (omega arith, (omega arith, (omega arith, (omega arith, (omega arith, (omega arith, (omega arith, (omega arith, tt))))))))))))
 
+pub size-small : (k n : ℕ) (text : List ℕ) → flaw k n text ≡ None → n < 256
+size-small k n text h =
+    let f = flawless k n text h in
+    let s = sized-bounds k n (f .1) in
+    let g = greatest-small k (f .0) in
+    omega (arith, s .1, g)
+
 -- What the code's steps come to.
 
 pub second : (xs t : List ℕ) → t ≡ drop 1 (take (length xs - 1) (drop 1 xs)) → t ≡ drop 2 xs

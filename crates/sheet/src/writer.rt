@@ -26,7 +26,7 @@ fn put(out: &mut [u8], at: usize, kind: u8, front: &[u8], back: &[u8]) -> Result
     ensures value { λ r. ⌜ placeOf r ≡ putting (kind ∷ (now (front .entry) ++ now (back .entry))) (now (back .entry)) at (now (out .entry)) ⌝ }
     ensures after { λ r. ⌜ now (out .exit) ≡ laidOver (placeOf r) (now (out .entry)) at (framed (kind ∷ (now (front .entry) ++ now (back .entry)))) ⌝ }
 {
-    let len = back.len().saturating_add(front.len() + 1);
+    let len = 1 + front.len() + back.len();
     check(kind, len, back)?;
     if out.len().saturating_sub(at) < 2 + len {
         return Err(Cause::Room);
@@ -84,8 +84,8 @@ impl<'a> Writer<'a> {
         ensures place { λ _. ⌜ now (self .exit) .place ≡ placeNow (wrote (meant (now (one .entry))) (now (self .entry) .place) (now (now (self .entry) .out))) (now (self .entry) .place) ⌝ }
         ensures out { λ _. ⌜ now (now (self .exit) .out) ≡ laidOver (wrote (meant (now (one .entry))) (now (self .entry) .place) (now (now (self .entry) .out))) (now (now (self .entry) .out)) (now (self .entry) .place) (encode (meant (now (one .entry)))) ⌝ }
     {
-        let place = write_at(self.out, self.place, one)?;
-        self.place = place;
+        let place = self.place;
+        self.place = write_at(self.out, place, one)?;
         Ok(())
     }
 
