@@ -92,16 +92,16 @@ triple-read g s t xs e h =
     ap (λ u. getD u (mask-width + 1) 0) e ∙ getD-append-right (digits mask-width g) (s ∷ t ∷ []) mask-width (mask-width + 1) 0 l (omega arith) ∙ ap (λ i. getD (s ∷ t ∷ []) i 0) one)
 
 parsed-inner : (r : Rec) → Held r → parsed (getD (inner r) 0 0) (drop 1 (inner r)) ≡ r
-parsed-inner (head n m k w) h = ap (head n m k) (value-whole word-width w (h .3))
+parsed-inner (head n m k w) h = ap (head n m k) (value-whole word-width w h)
 parsed-inner (name s t) h = refl
-parsed-inner (limit s x) h = ap (limit s) (value-whole mask-width x (h .1))
-parsed-inner (claim s x) h = ap (claim s) (value-whole mask-width x (h .1))
-parsed-inner (bar s x) h = ap (bar s) (value-whole mask-width x (h .1))
+parsed-inner (limit s x) h = ap (limit s) (value-whole mask-width x h)
+parsed-inner (claim s x) h = ap (claim s) (value-whole mask-width x h)
+parsed-inner (bar s x) h = ap (bar s) (value-whole mask-width x h)
 parsed-inner (range g s t) h =
-    let p = triple-read g s t (digits mask-width g ++ (s ∷ t ∷ [])) refl (h .0) in
+    let p = triple-read g s t (digits mask-width g ++ (s ∷ t ∷ [])) refl h in
     let a = p .0 in let b = p .1 in let d = p .2 in cc
 parsed-inner (roots g s t) h =
-    let p = triple-read g s t (digits mask-width g ++ (s ∷ t ∷ [])) refl (h .0) in
+    let p = triple-read g s t (digits mask-width g ++ (s ∷ t ∷ [])) refl h in
     let a = p .0 in let b = p .1 in let d = p .2 in cc
 parsed-inner (within a b) h = refl
 parsed-inner (apart a b) h = refl

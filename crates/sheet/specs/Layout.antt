@@ -164,19 +164,19 @@ headed (apart a b) = false
 headed (count a p q) = false
 headed (row a) = false
 
--- the numbers fit their fields
+-- the numbers of several bytes fit their fields
 abbrev pub Held : Rec → Type 0
-Held (head n m k w) = (n < 256) × (m < 256) × (k < 256) × (w < 256 ^ word-width)
-Held (name s t) = (s < 256) × Bytes t
-Held (limit s x) = (s < 256) × (x < 256 ^ mask-width)
-Held (claim s x) = (s < 256) × (x < 256 ^ mask-width)
-Held (bar s x) = (s < 256) × (x < 256 ^ mask-width)
-Held (range g s t) = (g < 256 ^ mask-width) × (s < 256) × (t < 256)
-Held (roots g s t) = (g < 256 ^ mask-width) × (s < 256) × (t < 256)
-Held (within a b) = (a < 256) × (b < 256)
-Held (apart a b) = (a < 256) × (b < 256)
-Held (count a p q) = (a < 256) × (p < 256) × (q < 256)
-Held (row a) = a < 256
+Held (head n m k w) = w < 256 ^ word-width
+Held (name s t) = Unit {0}
+Held (limit s x) = x < 256 ^ mask-width
+Held (claim s x) = x < 256 ^ mask-width
+Held (bar s x) = x < 256 ^ mask-width
+Held (range g s t) = g < 256 ^ mask-width
+Held (roots g s t) = g < 256 ^ mask-width
+Held (within a b) = Unit {0}
+Held (apart a b) = Unit {0}
+Held (count a p q) = Unit {0}
+Held (row a) = Unit {0}
 
 -- the bytes of a file that holds these records
 abbrev pub writeAll : List Rec → List ℕ

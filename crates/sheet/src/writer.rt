@@ -43,6 +43,7 @@ fn put(out: &mut [u8], at: usize, kind: u8, front: &[u8], back: &[u8]) -> Result
 fn write_at(out: &mut [u8], at: usize, one: &Record<'_>) -> Result<usize, Cause>
     ensures value { λ r. ⌜ placeOf r ≡ wrote (meant (now (one .entry))) at (now (out .entry)) ⌝ }
     ensures after { λ r. ⌜ now (out .exit) ≡ laidOver (placeOf r) (now (out .entry)) at (encode (meant (now (one .entry)))) ⌝ }
+    ensures held { λ _. ⌜ Held (meant (now (one .entry))) ⌝ }
 {
     match *one {
         Record::Head { n, m, k, kinds } => put(out, at, 1, &[n, m, k], &kinds.to_be_bytes()),
@@ -83,6 +84,7 @@ impl<'a> Writer<'a> {
         ensures value { λ r. ⌜ refused r ≡ refusal (wrote (meant (now (one .entry))) (now (self .entry) .place) (now (now (self .entry) .out))) ⌝ }
         ensures place { λ _. ⌜ now (self .exit) .place ≡ placeNow (wrote (meant (now (one .entry))) (now (self .entry) .place) (now (now (self .entry) .out))) (now (self .entry) .place) ⌝ }
         ensures out { λ _. ⌜ now (now (self .exit) .out) ≡ laidOver (wrote (meant (now (one .entry))) (now (self .entry) .place) (now (now (self .entry) .out))) (now (now (self .entry) .out)) (now (self .entry) .place) (encode (meant (now (one .entry)))) ⌝ }
+        ensures held { λ _. ⌜ Held (meant (now (one .entry))) ⌝ }
     {
         let place = self.place;
         self.place = write_at(self.out, place, one)?;
