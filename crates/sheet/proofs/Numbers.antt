@@ -3,7 +3,7 @@ use mathlib.Core.Path.{_≡_, refl, sym, ap, _∙_}
 use mathlib.Core.List.{List, [], _∷_, _++_}
 use mathlib.Core.Bool.{Bool, true, false, cond}
 use Prim.Native.Nat.{ℕ, zero, suc, _+_, _-_, _*_, _/_, _%_, _^_, _<_, _≤_, min}
-use native.Mathlib.Nat.{mod-eq-of-lt, mul-add-div-right, mul-add-mod-self-right, mul-assoc, pow-succ'}
+use native.Mathlib.Nat.{mod-eq-of-lt, mul-add-div-right, mul-add-mod-self-right, mul-assoc, pow-succ', pow-le-pow-right}
 use native.Mathlib.Omega.{arith}
 use lib.Arith.{mod-mul, digits-div, digits-lt}
 use lib.ListN.{length, getD, take, drop, length-take, length-drop}
@@ -50,6 +50,13 @@ value-digits n x h = value-mod n x ∙ mod-eq-of-lt h
 value-lt : (xs : List ℕ) → Bytes xs → value xs < 256 ^ length xs
 value-lt [] b = omega arith
 value-lt (x ∷ xs) b = rw pow-succ' (digits-lt (b .0) (value-lt xs (b .1)))
+
+-- the number that at most so many bytes write
+pub value-part : (n : ℕ) (xs : List ℕ) → Bytes xs → value (take n xs) < 256 ^ n
+value-part n xs b =
+    let l : length (take n xs) ≤ n = simp length-take (omega arith) in
+    let v = value-lt (take n xs) (all-take (λ x. x < 256) n xs b) in
+    omega (arith, v, pow-le-pow-right {n = 256} (omega arith) l)
 
 digits-add : (n y v : ℕ) → digits n (y * 256 ^ n + v) ≡ digits n v
 digits-add zero y v = refl

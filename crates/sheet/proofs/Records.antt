@@ -14,10 +14,10 @@ use Rattle.std.specs.declared.result.Result.the-variants.{Ok, Err}
 use Rattle.std.proofs.shelf.Lists.{drop-more, drop-all, drop-drop, take-at, take-all, getD-at, getD-append-right, append-nil}
 use Rattle.std.proofs.shelf.Elements.{all-getD, all-take, all-drop}
 use Rattle.std.proofs.shelf.Parts.{between-to-end}
-use Rattle.std.proofs.shelf.Tests.{cases-eq, le-ltb, ltb-false}
+use Rattle.std.proofs.shelf.Tests.{cases-eq, le-ltb, ltb-false, cond-both}
 use Rattle.std.proofs.shelf.Ways.{tells}
-use Rattle.sheet.specs.Layout.{Rec, head, name, limit, claim, bar, range, roots, within, apart, count, row, word-width, mask-width, lengths, known, least, greatest, sized, plain, flaw, ruled, value, digits, Bytes, maskAt, parsed, inner, framed, encode, inside, counted, taking, decode, Held}
-use Rattle.sheet.proofs.Numbers.{items, take-items, length-digits, value-digits, digits-value}
+use Rattle.sheet.specs.Layout.{Rec, head, name, limit, claim, bar, range, roots, within, apart, count, row, word-width, mask-width, lengths, known, least, greatest, sized, plain, flaw, ruled, value, digits, Bytes, maskAt, parsed, inner, framed, encode, flawOf, inside, counted, taking, decode, Held}
+use Rattle.sheet.proofs.Numbers.{items, take-items, length-digits, value-digits, digits-value, value-part}
 
 -- What a record without flaw is.
 
@@ -121,7 +121,7 @@ inner-some (apart a b) = omega arith
 inner-some (count a p q) = omega arith
 inner-some (row a) = omega arith
 
-pub decode-encode : (r : Rec) (rest : List ℕ) → Held r → flaw (getD (inner r) 0 0) (length (inner r)) (drop 2 (inner r)) ≡ None → decode (encode r ++ rest) ≡ Ok (r, length (encode r))
+pub decode-encode : (r : Rec) (rest : List ℕ) → Held r → flawOf r ≡ None → decode (encode r ++ rest) ≡ Ok (r, length (encode r))
 decode-encode r rest h f =
     let i : inside (inner r) ≡ Ok r = ap (λ o. ruled o (Ok (parsed (getD (inner r) 0 0) (drop 1 (inner r))))) f ∙ ap Ok (parsed-inner r h) in
     let n : 2 + length (inner r) ≡ length (encode r) = omega arith in
@@ -230,13 +230,24 @@ found xs r n h =
     let k₀ : 0 < counted xs = grind (arith, tells) in
     record { some = k₀; room = omega (arith, length-drop 2 xs); says = o .0; size = sym (o .1) }
 
+-- the bytes that a record was decoded from are kind and fields of it
+pub body-is : (xs : List ℕ) (r : Rec) (n : ℕ) → Bytes xs → Found xs r n → (inner r ≡ take (counted xs) (drop 2 xs)) × (flawOf r ≡ None) × (length (take (counted xs) (drop 2 xs)) ≡ counted xs)
+body-is xs r n b f =
+    let c : ℕ = counted xs in
+    let ys : List ℕ = take c (drop 2 xs) in
+    let l : length ys ≡ c = simp (length-take, length-drop) (omega (arith, f .room)) in
+    let i = inside-back ys r (omega (arith, f .some)) (all-take (λ x. x < 256) c (drop 2 xs) (all-drop (λ x. x < 256) 2 xs b)) (f .says) in
+    let e : inner r ≡ ys = i .0 in
+    (e, subst (λ (t : List ℕ). flaw (getD t 0 0) (length t) (drop 2 t) ≡ None) (sym e) (i .1), l)
+
 pub encode-decode : (xs : List ℕ) (r : Rec) (n : ℕ) → Bytes xs → decode xs ≡ Ok (r, n) → encode r ++ drop n xs ≡ xs
 encode-decode xs r n b h =
     let f = found xs r n h in
     let c : ℕ = counted xs in
     let ys : List ℕ = take c (drop 2 xs) in
-    let l : length ys ≡ c = simp (length-take, length-drop) (omega (arith, f .room)) in
-    let i : inner r ≡ ys = inside-back ys r (omega (arith, f .some)) (all-take (λ x. x < 256) c (drop 2 xs) (all-drop (λ x. x < 256) 2 xs b)) (f .says) .0 in
+    let p = body-is xs r n b f in
+    let i : inner r ≡ ys = p .0 in
+    let l : length ys ≡ c = p .2 in
     let b₀ : getD xs 0 0 < 256 = all-getD (λ x. x < 256) xs 0 0 (omega (arith, f .room)) b in
     let b₁ : getD xs 1 0 < 256 = all-getD (λ x. x < 256) xs 1 0 (omega (arith, f .room)) b in
     let hi : length ys / 256 ≡ getD xs 0 0 = omega arith in
@@ -245,3 +256,28 @@ encode-decode xs r n b h =
     let e₁ : drop 1 xs ≡ getD xs 1 0 ∷ drop 2 xs = drop-more xs 1 0 (omega (arith, f .room)) in
     let e₂ : ys ++ drop n xs ≡ drop 2 xs = ap (λ m. ys ++ drop m xs) (f .size) ∙ ap (λ u. ys ++ u) (sym (drop-drop c 2 xs)) ∙ take-append-drop c (drop 2 xs) in
     ap (λ u. framed u ++ drop n xs) i ∙ ap (λ u. u ∷ (length ys % 256) ∷ (ys ++ drop n xs)) hi ∙ ap (λ u. getD xs 0 0 ∷ u ∷ (ys ++ drop n xs)) lo ∙ ap (λ u. getD xs 0 0 ∷ getD xs 1 0 ∷ u) e₂ ∙ sym (e₀ ∙ ap (λ u. getD xs 0 0 ∷ u) e₁)
+
+part-held : (n i : ℕ) (fs : List ℕ) → Bytes fs → value (take n (drop i fs)) < 256 ^ n
+part-held n i fs b = value-part n (drop i fs) (all-drop (λ x. x < 256) i fs b)
+
+parsed-held : (k : ℕ) (fs : List ℕ) → Bytes fs → Held (parsed k fs)
+parsed-held k fs b =
+    cond-both (eqb k 1) _ _ Held (λ _. part-held word-width 3 fs b) (λ _.
+    cond-both (eqb k 2) _ _ Held (λ _. tt) (λ _.
+    cond-both (eqb k 3) _ _ Held (λ _. part-held mask-width 1 fs b) (λ _.
+    cond-both (eqb k 4) _ _ Held (λ _. part-held mask-width 1 fs b) (λ _.
+    cond-both (eqb k 5) _ _ Held (λ _. part-held mask-width 1 fs b) (λ _.
+    cond-both (eqb k 6) _ _ Held (λ _. part-held mask-width 0 fs b) (λ _.
+    cond-both (eqb k 7) _ _ Held (λ _. part-held mask-width 0 fs b) (λ _.
+    cond-both (eqb k 8) _ _ Held (λ _. tt) (λ _.
+    cond-both (eqb k 9) _ _ Held (λ _. tt) (λ _.
+    cond-both (eqb k 10) _ _ Held (λ _. tt) (λ _. tt))))))))))
+
+-- what was decoded is a record that the writer takes
+pub decode-fair : (xs : List ℕ) (r : Rec) (n : ℕ) → Bytes xs → decode xs ≡ Ok (r, n) → Held r × (flawOf r ≡ None)
+decode-fair xs r n b h =
+    let f = found xs r n h in
+    let ys : List ℕ = take (counted xs) (drop 2 xs) in
+    let bs : Bytes ys = all-take (λ x. x < 256) (counted xs) (drop 2 xs) (all-drop (λ x. x < 256) 2 xs b) in
+    let o = ruled-ok (flaw (getD ys 0 0) (length ys) (drop 2 ys)) (parsed (getD ys 0 0) (drop 1 ys)) r (f .says) in
+    (subst Held (o .1) (parsed-held (getD ys 0 0) (drop 1 ys) (all-drop (λ x. x < 256) 1 ys bs)), body-is xs r n b f .1)

@@ -5,7 +5,7 @@ use mathlib.Core.Bool.{Bool, true, false, cond}
 use Prim.Native.Nat.{ℕ, zero, suc, _+_, _*_, _/_, _%_, _^_, _<_, _≤_}
 use lib.Dec.{leb, ltb, eqb}
 use lib.ListN.{length, getD, take, drop}
-use Rattle.std.specs.shelf.Lists.{All, joined}
+use Rattle.std.specs.shelf.Lists.{All}
 use Rattle.std.specs.declared.result.Result.{Result}
 use Rattle.std.specs.declared.result.Result.the-variants.{Ok, Err}
 use Rattle.std.specs.declared.option.Option.{Option}
@@ -125,6 +125,10 @@ inner (apart a b) = 9 ∷ a ∷ b ∷ []
 inner (count a p q) = 10 ∷ a ∷ p ∷ q ∷ []
 inner (row a) = 11 ∷ a ∷ []
 
+-- what is wrong with a record
+abbrev pub flawOf : Rec → Option ℕ
+flawOf r = flaw (getD (inner r) 0 0) (length (inner r)) (drop 2 (inner r))
+
 -- the length in front of kind and fields
 abbrev pub framed : List ℕ → List ℕ
 framed ys = (length ys / 256) ∷ (length ys % 256) ∷ ys
@@ -177,7 +181,3 @@ Held (within a b) = Unit {0}
 Held (apart a b) = Unit {0}
 Held (count a p q) = Unit {0}
 Held (row a) = Unit {0}
-
--- the bytes of a file that holds these records
-abbrev pub writeAll : List Rec → List ℕ
-writeAll rs = version ∷ joined encode rs

@@ -1,4 +1,7 @@
 //! Reads and writes sheet files.
+ghost use Rattle.sheet.specs.Files.{Undone};
+ghost use Rattle.sheet.specs.Refusals.{Refusals};
+
 mod format;
 mod reader;
 mod writer;
@@ -8,3 +11,17 @@ pub use format::Fault;
 pub use format::Record;
 pub use reader::Reader;
 pub use writer::Writer;
+
+/// Reading and writing undo each other, for records and for whole files.
+pub fn undoing_stands() -> u8
+    ensures { λ _. ⌜ Undone ⌝ }
+{
+    0
+}
+
+/// Each refusal is given exactly where it should be.
+pub fn refusals_stand() -> u8
+    ensures { λ _. ⌜ Refusals ⌝ }
+{
+    0
+}
