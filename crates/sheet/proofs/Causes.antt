@@ -6,7 +6,7 @@ use mathlib.Core.Logic.{_⊎_, inl, inr}
 use Prim.Native.Nat.{ℕ, zero, suc, _+_, _-_, _*_, _<_, _≤_}
 use native.Mathlib.Omega.{arith}
 use lib.Dec.{leb, ltb, eqb}
-use lib.ListN.{length, getD, take, drop, length-drop, length-take}
+use lib.ListN.{length, getD, take, drop, length-append, length-drop, length-take}
 use Rattle.std.specs.declared.result.Result.{Result}
 use Rattle.std.specs.declared.result.Result.the-variants.{Ok, Err}
 use Rattle.std.specs.declared.option.Option.{Option}
@@ -15,10 +15,12 @@ use Rattle.std.specs.Orderings.{When}
 use Rattle.std.proofs.shelf.Lists.{getD-take, getD-drop, drop-all}
 use Rattle.std.proofs.shelf.Tests.{cases-eq, cases-lt, cases-bool, eq-eqb, ne-eqb, eqb-true, le-leb, lt-leb, lt-ltb, le-ltb, leb-true, cond-true, cond-false, cond-both, both-ways}
 use Rattle.std.proofs.shelf.Ways.{tells}
-use Rattle.sheet.specs.Layout.{Rec, version, longest, known, least, greatest, sized, plainByte, plain, flaw, ruled, parsed, inside, counted, taking, decode, headed}
-use Rattle.sheet.specs.Steps.{opens, ordered, turn}
-use Rattle.sheet.specs.Refusals.{Exactly, lengthAt, kindAt, Stands, Known, Sized, InText, Clean, Sound, Misplaced, Unopened, Cut, Unknown, Missized, Unprintable, Disordered, Given, Refusals}
+use Rattle.sheet.specs.Layout.{Rec, head, name, limit, claim, bar, range, roots, within, apart, count, row, word-width, mask-width, digits, inner, framed, encode, flawOf, version, longest, known, least, greatest, sized, plainByte, plain, flaw, ruled, parsed, inside, counted, taking, decode, headed}
+use Rattle.sheet.specs.Steps.{opens, ordered, turn, wrote, placed}
+use Rattle.sheet.specs.Refusals.{Exactly, lengthAt, kindAt, Stands, Known, Sized, InText, Clean, Sound, Misplaced, Unopened, Cut, Unknown, Missized, Unprintable, Disordered, Given, Refusals, Writes}
 use Rattle.sheet.proofs.Records.{decode-by, sized-bounds, known-bounds}
+use Rattle.sheet.proofs.Numbers.{length-digits}
+use Rattle.sheet.proofs.Outputs.{no-room, room}
 use Rattle.sheet.proofs.Whole.{turn-end, turn-more, turn-none}
 
 -- The text of a name.
@@ -372,3 +374,76 @@ refusals = record {
   only = λ file begun p e h. (let m = means file p begun e h in (m .1, m .2));
   ends = λ file begun p. (λ h. (let z = turn-none begun (drop p file) h in (omega (arith, z .0, length-drop p file), z .1)), λ w. turn-last file p begun (w .0) (w .1));
   gives = λ file begun p. gives file p begun }
+
+-- What the writer refuses.
+
+exact : (k n : ℕ) (t : List ℕ) → known k ≡ true → eqb k 2 ≡ false → least k ≤ n → n ≤ greatest k → flaw k n t ≡ None
+exact k n t a b lo hi = flaw-none k n t a (sized-true k n (lo, hi)) (cond-false (eqb k 2) (plain t) true b)
+
+free : (r : Rec) → (flawOf r ≡ None) ⊎ ((s : ℕ) × (t : List ℕ) × (r ≡ name s t))
+free (head n m k w) = let l = length-digits word-width w in inl (exact 1 (length (inner (head n m k w))) [] refl refl (omega (arith, l)) (omega (arith, l)))
+free (name s t) = inr (s, t, refl)
+free (limit s x) = let l = length-digits mask-width x in inl (exact 3 (length (inner (limit s x))) [] refl refl (omega (arith, l)) (omega (arith, l)))
+free (claim s x) = let l = length-digits mask-width x in inl (exact 4 (length (inner (claim s x))) [] refl refl (omega (arith, l)) (omega (arith, l)))
+free (bar s x) = let l = length-digits mask-width x in inl (exact 5 (length (inner (bar s x))) [] refl refl (omega (arith, l)) (omega (arith, l)))
+free (range g s t) =
+    let l = length-digits mask-width g in
+    let n = length-append (digits mask-width g) (s ∷ t ∷ []) in
+    inl (exact 6 (length (inner (range g s t))) [] refl refl (omega (arith, l, n)) (omega (arith, l, n)))
+free (roots g s t) =
+    let l = length-digits mask-width g in
+    let n = length-append (digits mask-width g) (s ∷ t ∷ []) in
+    inl (exact 7 (length (inner (roots g s t))) [] refl refl (omega (arith, l, n)) (omega (arith, l, n)))
+free (within a b) = inl refl
+free (apart a b) = inl refl
+free (count a p q) = inl refl
+free (row a) = inl refl
+
+module _ (s : ℕ) (t : List ℕ) where
+  missized-name : (length t ≡ 0) ⊎ (32 < length t) → flawOf (name s t) ≡ Some 13
+  missized-name (inl h) = flaw-size 2 (length (inner (name s t))) t refl (sized-false 2 (length (inner (name s t))) (inl (omega (arith, h))))
+  missized-name (inr h) = flaw-size 2 (length (inner (name s t))) t refl (sized-false 2 (length (inner (name s t))) (inr (omega (arith, h))))
+
+  name-text : 1 ≤ length t → length t ≤ 32 → flawOf (name s t) ≡ cond (plain t) None (Some 14)
+  name-text lo hi = cond-true (sized 2 (length (inner (name s t)))) _ _ (sized-true 2 (length (inner (name s t))) (omega (arith, lo), omega (arith, hi)))
+
+  size-of : (b : Bool) (P : Type 0) → _≡_ {A = Option ℕ} (cond b None (Some 14)) (Some 13) → P
+  size-of true P h = absurd (let z : _≡_ {A = ℕ} 0 1 = cc in omega arith)
+  size-of false P h = absurd (let z : _≡_ {A = ℕ} 14 13 = cc in omega arith)
+
+  text-of : (b : Bool) → _≡_ {A = Option ℕ} (cond b None (Some 14)) (Some 14) → b ≡ false
+  text-of true h = cc
+  text-of false h = refl
+
+  name-size : flawOf (name s t) ≡ Some 13 → (length t ≡ 0) ⊎ (32 < length t)
+  name-size h = elim (cases-eq (length t) 0) [
+    | inl e ↦ inl e
+    | inr n ↦ elim (cases-lt 32 (length t)) [ inl l ↦ inr l | inr l ↦ size-of (plain t) _ (sym (name-text (omega (arith, n)) l) ∙ h) ]
+  ]
+
+  clash : flawOf (name s t) ≡ Some 13 → flawOf (name s t) ≡ Some 14 → ⊥
+  clash p q = let z : _≡_ {A = ℕ} 13 14 = cc in omega arith
+
+  name-odd : flawOf (name s t) ≡ Some 14 → (1 ≤ length t) × (length t ≤ 32) × ((i : ℕ) × (i < length t) × Odd (getD t i 0))
+  name-odd h = elim (cases-lt 0 (length t)) [
+    | inl lo ↦ elim (cases-lt 32 (length t)) [
+      | inl l ↦ absurd (clash (missized-name (inr l)) h)
+      | inr hi ↦ (lo, hi, odd-plain t (text-of (plain t) (sym (name-text lo hi) ∙ h)))
+    ]
+    | inr l ↦ absurd (clash (missized-name (inl (omega arith))) h)
+  ]
+
+  odd-name : (1 ≤ length t) × (length t ≤ 32) × ((i : ℕ) × (i < length t) × Odd (getD t i 0)) → flawOf (name s t) ≡ Some 14
+  odd-name w = name-text (w .0) (w .1) ∙ cond-false (plain t) _ _ (plain-odd t (w .2 .0) (w .2 .1) (w .2 .2))
+
+wrote-by : (r : Rec) (at : ℕ) (out : List ℕ) (o : Option ℕ) → flawOf r ≡ o → wrote r at out ≡ ruled o (placed (encode r) at out)
+wrote-by r at out o f = ap (λ u. ruled u (placed (encode r) at out)) f
+
+pub writes : Writes
+writes = record {
+  free = free;
+  thirteen = λ s t. (name-size s t, missized-name s t);
+  fourteen = λ s t. (name-odd s t, odd-name s t);
+  flawed = λ r at out e f. wrote-by r at out (Some e) f;
+  nine = λ r at out f h. wrote-by r at out None f ∙ no-room (encode r) out at h;
+  taken = λ r at out f h. wrote-by r at out None f ∙ room (encode r) out at (at + length (encode r)) refl h }

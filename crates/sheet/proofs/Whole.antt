@@ -17,8 +17,10 @@ use Rattle.std.proofs.shelf.Elements.{all-drop}
 use Rattle.std.proofs.shelf.Tests.{cases-eq, cases-bool, eq-eqb, ne-eqb, eqb-true, le-leb, lt-leb, leb-true, cond-true, cond-false}
 use Rattle.std.proofs.shelf.Ways.{tells}
 use Rattle.sheet.specs.Layout.{Rec, version, longest, Bytes, Held, flawOf, headed, inner, framed, encode, decode}
-use Rattle.sheet.specs.Steps.{opens, ordered, turn}
-use Rattle.sheet.specs.Files.{before, follow, readFrom, readOn, readAll, writeAll, Fair, Sheet, Undone}
+use denote.Ref.{now}
+use Rattle.sheet.specs.declared.reader.Reader.{Reader}
+use Rattle.sheet.specs.Steps.{opens, ordered, turn, bare, told, onward, started, turned, Moved}
+use Rattle.sheet.specs.Files.{before, follow, readFrom, readOn, readAll, readsOn, then, unread, Lessens, writeAll, Fair, Sheet, Undone}
 use Rattle.sheet.proofs.Records.{found, decode-encode, encode-decode, decode-fair}
 
 -- What a step is.
@@ -103,6 +105,38 @@ unfolding readFrom readOn
 steps file at begun =
     follow-same (turn begun (drop at file)) at (λ next. readFrom (length (drop at file)) file next true) (λ next. readOn file next true)
     (λ r h. let s = shorter file at begun r h in enough (length (drop at file)) (suc (length (drop (at + r .1) file))) file (at + r .1) true s (omega arith))
+
+-- the same as a reader's answer and the rest
+pub told-by : (at : ℕ) (t : Result (Option (Rec × ℕ)) ℕ) (o : Option Rec) → Ok o ≡ bare t → Ok o ≡ told at t
+told-by at (Ok None) o h = cc
+told-by at (Ok (Some p)) o h = cc
+told-by at (Err e) o h = absurd (let z : _≡_ {A = ℕ} 0 1 = cc in omega arith)
+
+pub told-fault : (at : ℕ) (t : Result (Option (Rec × ℕ)) ℕ) (e : ℕ) → Err e ≡ bare t → Err (e, at) ≡ told at t
+told-fault at (Ok None) e h = absurd (let z : _≡_ {A = ℕ} 0 1 = cc in omega arith)
+told-fault at (Ok (Some p)) e h = absurd (let z : _≡_ {A = ℕ} 0 1 = cc in omega arith)
+told-fault at (Err d) e h = let q : e ≡ d = cc in ap (λ x. Err (x, at)) q
+
+follow-told : (file : List ℕ) (at next : ℕ) (begun : Bool) (t : Result (Option (Rec × ℕ)) ℕ) → next ≡ onward at t → follow t at (λ i. readOn file i true) ≡ then (told at t) (readOn file next (started begun t))
+follow-told file at next begun (Ok None) e = refl
+follow-told file at next begun (Ok (Some p)) e = ap (λ i. before (p .0) (readOn file i true)) (sym e)
+follow-told file at next begun (Err x) e = refl
+
+pub walked : (x y : Reader) (a : Result (Option Rec) (ℕ × ℕ)) → a ≡ told (x .at) (turned x) → Moved x y → readsOn x ≡ then a (readsOn y)
+walked x y a e m =
+    steps (now (x .file)) (x .at) (x .begun) ∙ follow-told (now (x .file)) (x .at) (y .at) (x .begun) (turned x) (m .at)
+    ∙ ap (λ b. then (told (x .at) (turned x)) (readOn (now (x .file)) (y .at) b)) (sym (m .begun)) ∙ ap (λ f. then (told (x .at) (turned x)) (readOn f (y .at) (y .begun))) (sym (m .file)) ∙ ap (λ u. then u (readsOn y)) (sym e)
+
+lessens : (file : List ℕ) (at : ℕ) (begun : Bool) (t : Result (Option (Rec × ℕ)) ℕ) → turn begun (drop at file) ≡ t → Lessens (told at t) (drop at file) (drop (onward at t) file)
+lessens file at begun (Ok None) h = refl
+lessens file at begun (Ok (Some p)) h = shorter file at begun p h
+lessens file at begun (Err e) h = refl
+
+pub lessened : (x y : Reader) (a : Result (Option Rec) (ℕ × ℕ)) → a ≡ told (x .at) (turned x) → Moved x y → Lessens a (unread x) (unread y)
+lessened x y a e m =
+    let d : drop (onward (x .at) (turned x)) (now (x .file)) ≡ unread y = ap (λ i. drop i (now (x .file))) (sym (m .at)) ∙ ap (drop (y .at)) (sym (m .file)) in
+    subst (λ (b : Result (Option Rec) (ℕ × ℕ)). Lessens b (unread x) (unread y)) (sym e)
+    (subst (λ (ys : List ℕ). Lessens (told (x .at) (turned x)) (unread x) ys) d (lessens (now (x .file)) (x .at) (x .begun) (turned x) refl))
 
 -- An accepted file.
 

@@ -9,6 +9,8 @@ use Rattle.std.specs.declared.result.Result.{Result}
 use Rattle.std.specs.declared.result.Result.the-variants.{Ok, Err}
 use Rattle.std.specs.declared.option.Option.{Option}
 use Rattle.std.specs.declared.option.Option.the-variants.{Some, None}
+use denote.Ref.{now}
+use Rattle.sheet.specs.declared.reader.Reader.{Reader}
 use Rattle.sheet.specs.Layout.{Rec, version, longest, Bytes, Held, flawOf, headed, encode, decode}
 use Rattle.sheet.specs.Steps.{opens, turn}
 
@@ -34,6 +36,25 @@ readOn file at begun = readFrom (suc (length (drop at file))) file at begun
 -- the records of a file, or the refusal
 abbrev pub readAll : List ℕ → Result (List Rec) (ℕ × ℕ)
 readAll file = cond (opens file) (readOn file 1 false) (Err (10, 0))
+
+-- what a reader has still to read, as bytes and as records
+abbrev pub unread : Reader → List ℕ
+unread x = drop (x .at) (now (x .file))
+
+abbrev pub readsOn : Reader → Result (List Rec) (ℕ × ℕ)
+readsOn x = readOn (now (x .file)) (x .at) (x .begun)
+
+-- an answer of the reader, and then the rest
+abbrev pub then : Result (Option Rec) (ℕ × ℕ) → Result (List Rec) (ℕ × ℕ) → Result (List Rec) (ℕ × ℕ)
+then (Ok None) rest = Ok []
+then (Ok (Some r)) rest = before r rest
+then (Err f) rest = Err f
+
+-- each record takes bytes
+abbrev pub Lessens : Result (Option Rec) (ℕ × ℕ) → List ℕ → List ℕ → Type 0
+Lessens (Ok None) xs ys = ys ≡ xs
+Lessens (Ok (Some r)) xs ys = length ys < length xs
+Lessens (Err f) xs ys = ys ≡ xs
 
 -- the bytes of a file that holds these records
 abbrev pub writeAll : List Rec → List ℕ

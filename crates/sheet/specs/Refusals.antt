@@ -9,8 +9,8 @@ use Rattle.std.specs.declared.result.Result.{Result}
 use Rattle.std.specs.declared.result.Result.the-variants.{Ok, Err}
 use Rattle.std.specs.declared.option.Option.{Option}
 use Rattle.std.specs.declared.option.Option.the-variants.{Some, None}
-use Rattle.sheet.specs.Layout.{Rec, version, longest, least, greatest, headed}
-use Rattle.sheet.specs.Steps.{opens, turn}
+use Rattle.sheet.specs.Layout.{Rec, name, version, longest, least, greatest, flawOf, encode, headed}
+use Rattle.sheet.specs.Steps.{opens, turn, wrote}
 
 abbrev pub Exactly : Type 0 → Type 0 → Type 0
 Exactly X Y = (X → Y) × (Y → X)
@@ -83,3 +83,13 @@ pub record Refusals : Type 0 where
   -- the end is reached, or a record is given
   pub ends : (file : List ℕ) (begun : Bool) (p : ℕ) → Exactly (turn begun (drop p file) ≡ Ok None) ((length file ≤ p) × (begun ≡ true))
   pub gives : (file : List ℕ) (begun : Bool) (p : ℕ) → Sound file p → (Misplaced begun (kindAt file p) → ⊥) → Given file begun p
+
+-- what the writer refuses: a flaw of the record first, and then the want of room
+pub record Writes : Type 0 where
+  -- a record with no name in it has no flaw
+  pub free : (r : Rec) → (flawOf r ≡ None) ⊎ ((s : ℕ) × (t : List ℕ) × (r ≡ name s t))
+  pub thirteen : (s : ℕ) (t : List ℕ) → Exactly (flawOf (name s t) ≡ Some 13) ((length t ≡ 0) ⊎ (32 < length t))
+  pub fourteen : (s : ℕ) (t : List ℕ) → Exactly (flawOf (name s t) ≡ Some 14) ((1 ≤ length t) × (length t ≤ 32) × ((i : ℕ) × (i < length t) × ((getD t i 0 < 0x20) ⊎ (0x7E < getD t i 0))))
+  pub flawed : (r : Rec) (at : ℕ) (out : List ℕ) (e : ℕ) → flawOf r ≡ Some e → wrote r at out ≡ Err e
+  pub nine : (r : Rec) (at : ℕ) (out : List ℕ) → flawOf r ≡ None → length out < at + length (encode r) → wrote r at out ≡ Err 9
+  pub taken : (r : Rec) (at : ℕ) (out : List ℕ) → flawOf r ≡ None → at + length (encode r) ≤ length out → wrote r at out ≡ Ok (at + length (encode r))

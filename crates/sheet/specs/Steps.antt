@@ -55,9 +55,16 @@ abbrev pub decodeOf : Result (Record × ℕ) Cause → Result (Rec × ℕ) ℕ
 decodeOf (Ok p) = Ok (meant (p .0), p .1)
 decodeOf (Err e) = Err (number e)
 
+abbrev pub meantIf : Option Record → Option Rec
+meantIf None = None
+meantIf (Some r) = Some (meant r)
+
+abbrev pub stepOf : Result (Option Record) Cause → Result (Option Rec) ℕ
+stepOf (Ok o) = Ok (meantIf o)
+stepOf (Err e) = Err (number e)
+
 abbrev pub answer : Result (Option Record) Fault → Result (Option Rec) (ℕ × ℕ)
-answer (Ok None) = Ok None
-answer (Ok (Some r)) = Ok (Some (meant r))
+answer (Ok o) = Ok (meantIf o)
 answer (Err f) = Err (number (f .cause), f .position)
 
 abbrev pub placeOf : Result ℕ Cause → Result ℕ ℕ
@@ -78,6 +85,12 @@ ordered false (Err e) = Err e
 -- one step over the bytes that are left: a record and its size, the end, or a refusal
 abbrev pub turn : Bool → List ℕ → Result (Option (Rec × ℕ)) ℕ
 turn begun xs = cond (eqb (length xs) 0) (cond begun (Ok None) (Err 15)) (ordered begun (decode xs))
+
+-- what a step says: without the size, and with the position
+abbrev pub bare : Result (Option (Rec × ℕ)) ℕ → Result (Option Rec) ℕ
+bare (Ok None) = Ok None
+bare (Ok (Some p)) = Ok (Some (p .0))
+bare (Err e) = Err e
 
 abbrev pub told : ℕ → Result (Option (Rec × ℕ)) ℕ → Result (Option Rec) (ℕ × ℕ)
 told at (Ok None) = Ok None

@@ -1,7 +1,7 @@
 //! Records, refusals, and the table of lengths.
 ghost use mathlib.Core.Path.{_≡_};
 ghost use Rattle.sheet.specs.Layout.{plain, flaw, lengthsOf};
-ghost use Rattle.sheet.specs.Steps.{refused};
+ghost use Rattle.sheet.specs.Steps.{number as numberOf, refused};
 
 /// The version byte.
 pub const VERSION: u8 = 1;
@@ -57,6 +57,23 @@ pub enum Cause {
     Size,
     Text,
     Order,
+}
+
+impl Cause {
+    /// The refusal's number.
+    pub fn number(self) -> u8
+        ensures { λ r. ⌜ r ≡ numberOf self ⌝ }
+    {
+        match self {
+            Cause::Room => 9,
+            Cause::File => 10,
+            Cause::Length => 11,
+            Cause::Kind => 12,
+            Cause::Size => 13,
+            Cause::Text => 14,
+            Cause::Order => 15,
+        }
+    }
 }
 
 /// A refusal of the reader, and where in the file.

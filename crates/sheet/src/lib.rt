@@ -1,6 +1,6 @@
 //! Reads and writes sheet files.
 ghost use Rattle.sheet.specs.Files.{Undone};
-ghost use Rattle.sheet.specs.Refusals.{Refusals};
+ghost use Rattle.sheet.specs.Refusals.{Refusals, Writes};
 
 mod format;
 mod reader;
@@ -9,6 +9,7 @@ mod writer;
 pub use format::Cause;
 pub use format::Fault;
 pub use format::Record;
+pub use format::LONGEST;
 pub use reader::Reader;
 pub use writer::Writer;
 
@@ -19,9 +20,10 @@ pub fn undoing_stands() -> u8
     0
 }
 
-/// Each refusal is given exactly where it should be.
+/// Each refusal, of the reader and of the writer, is given exactly where it should be.
 pub fn refusals_stand() -> u8
-    ensures { λ _. ⌜ Refusals ⌝ }
+    ensures reader { λ _. ⌜ Refusals ⌝ }
+    ensures writer { λ _. ⌜ Writes ⌝ }
 {
     0
 }

@@ -6,7 +6,9 @@ ghost use lib.ListN.{length, getD, take, drop};
 ghost use Rattle.std.specs.declared.option.Option.the-variants.{None};
 ghost use Rattle.std.specs.Results.{Cases, isErr};
 ghost use Rattle.sheet.specs.Layout.{word-width, mask-width, flaw, maskAt, parsed, inside, decode, headed as isHead};
-ghost use Rattle.sheet.specs.Steps.{number, meant, insideOf, decodeOf, answer, opens, told, turned, Moved};
+ghost use Rattle.std.specs.declared.result.Result.the-variants.{Err};
+ghost use Rattle.sheet.specs.Files.{readAll, readsOn, then, unread, Lessens};
+ghost use Rattle.sheet.specs.Steps.{number, meant, insideOf, decodeOf, stepOf, answer, opens, bare, told, turned, Moved};
 use crate::format::check;
 use crate::format::Cause;
 use crate::format::Fault;
@@ -161,7 +163,8 @@ pub struct Reader<'a> {
 impl<'a> Reader<'a> {
     /// A reader at the first record.
     pub fn open(file: &'a [u8]) -> Result<Reader<'a>, Fault>
-        ensures { λ r. ⌜ Cases r (λ x. (opens (now (file .entry)) ≡ true) × (now (x .file) ≡ now (file .entry)) × (x .at ≡ 1) × (x .begun ≡ false)) (λ f. (opens (now (file .entry)) ≡ false) × (number (f .cause) ≡ 10) × (f .position ≡ 0)) ⌝ }
+        ensures value { λ r. ⌜ Cases r (λ x. (opens (now (file .entry)) ≡ true) × (now (x .file) ≡ now (file .entry)) × (x .at ≡ 1) × (x .begun ≡ false)) (λ f. (opens (now (file .entry)) ≡ false) × (number (f .cause) ≡ 10) × (f .position ≡ 0)) ⌝ }
+        ensures whole { λ r. ⌜ Cases r (λ x. readAll (now (file .entry)) ≡ readsOn x) (λ f. readAll (now (file .entry)) ≡ Err (number (f .cause), f .position)) ⌝ }
     {
         match file {
             [VERSION, ..] if file.len() <= LONGEST => Ok(Reader { file, at: 1, begun: false }),
@@ -180,33 +183,48 @@ impl<'a> Reader<'a> {
     pub fn position(&self) -> usize
         ensures { λ r. ⌜ r ≡ now (self .entry) .at ⌝ }
     {
-        self.at
+        let Reader { at, .. } = self;
+        *at
+    }
+
+    // The next record, or none at the end. A refusal leaves the reader as it was.
+    fn advance(&mut self) -> Result<Option<Record<'a>>, Cause>
+        ensures value { λ r. ⌜ stepOf r ≡ bare (turned (now (self .entry))) ⌝ }
+        ensures moved { λ _. ⌜ Moved (now (self .entry)) (now (self .exit)) ⌝ }
+        ensures kept { λ r. ⌜ (isErr r ≡ true → now (self .exit) ≡ now (self .entry)) ⌝ }
+    {
+        let rest = self.rest();
+        if rest.is_empty() {
+            if self.begun {
+                return Ok(None);
+            }
+            return Err(Cause::Order);
+        }
+        match first(rest) {
+            Err(cause) => Err(cause),
+            Ok((one, taken)) => {
+                if is_head(&one) == self.begun {
+                    return Err(Cause::Order);
+                }
+                self.at += taken;
+                self.begun = true;
+                Ok(Some(one))
+            }
+        }
     }
 
     /// The next record, or none at the end. A refusal leaves the reader as it was.
     pub fn next(&mut self) -> Result<Option<Record<'a>>, Fault>
         ensures value { λ r. ⌜ answer r ≡ told (now (self .entry) .at) (turned (now (self .entry))) ⌝ }
         ensures moved { λ _. ⌜ Moved (now (self .entry)) (now (self .exit)) ⌝ }
+        ensures whole { λ r. ⌜ readsOn (now (self .entry)) ≡ then (answer r) (readsOn (now (self .exit))) ⌝ }
+        ensures less { λ r. ⌜ Lessens (answer r) (unread (now (self .entry))) (unread (now (self .exit))) ⌝ }
         ensures kept { λ r. ⌜ (isErr r ≡ true → now (self .exit) ≡ now (self .entry)) ⌝ }
     {
         let position = self.at;
-        let rest = self.rest();
-        if rest.is_empty() {
-            if self.begun {
-                return Ok(None);
-            }
-            return Err(Fault { cause: Cause::Order, position });
-        }
-        match first(rest) {
+        match self.advance() {
+            Ok(one) => Ok(one),
             Err(cause) => Err(Fault { cause, position }),
-            Ok((one, taken)) => {
-                if is_head(&one) == self.begun {
-                    return Err(Fault { cause: Cause::Order, position });
-                }
-                self.at += taken;
-                self.begun = true;
-                Ok(Some(one))
-            }
         }
     }
 }

@@ -1,17 +1,20 @@
-use mathlib.Core.Path.{_≡_, sym, ap, _∙_}
-use Prim.Native.Nat.{_+_, _-_, _≤_}
-use native.Mathlib.Omega.{arith}
-use lib.ListN.{length, length-drop}
-use Rattle.sheet.specs.Steps.{meant}
-use Rattle.sheet.proofs.Records.{found}
+use mathlib.Core.Path.{_≡_}
+use Rattle.sheet.specs.Steps.{answer, number, meantIf, turned}
+use Rattle.sheet.proofs.Whole.{told-by, told-fault, walked, lessened}
 use Rattle.sheet.proofs.reader.Reader.next.Needs as need
 
-pub add-self : need.add-self
-add-self c =
-    let xs = c .args .self .now .file .now in
-    let at = c .args .self .now .at in
-    let rest = c .rest-rest .result .now in
-    let f = found rest (meant (c .in-Ok .one)) (c .in-Ok .taken) (sym (c .in-Ok .ensures tt)) in
-    let l : length rest ≡ length xs - at = ap length (c .rest-rest .ensures) ∙ length-drop at xs in
-    let s : at + c .in-Ok .taken ≤ length xs = omega (arith, f .room, f .size, l) in
-    omega arith
+pub returns-in-Ok : need.returns-in-Ok
+returns-in-Ok c =
+    let x = c .args .self .now in
+    let y = c .advance .last .self in
+    let v = told-by (x .at) (turned x) (meantIf (c .in-Ok .one)) (c .in-Ok .ensures tt .value) in
+    let m = c .in-Ok .ensures tt .moved in
+    record { value = v; moved = m; whole = walked x y _ v m; less = lessened x y _ v m; kept = c .in-Ok .ensures tt .kept }
+
+pub returns-in-Err : need.returns-in-Err
+returns-in-Err c =
+    let x = c .args .self .now in
+    let y = c .advance .last .self in
+    let v = told-fault (x .at) (turned x) (number (c .in-Err .cause)) (c .in-Err .ensures tt .value) in
+    let m = c .in-Err .ensures tt .moved in
+    record { value = v; moved = m; whole = walked x y _ v m; less = lessened x y _ v m; kept = c .in-Err .ensures tt .kept }
