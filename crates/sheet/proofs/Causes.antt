@@ -218,11 +218,11 @@ module _ (file : List ℕ) (p : ℕ) where
   plain-true s h = elim (cases-bool (plain (drop 2 bodyAt))) [
     | inl e ↦ e
     | inr e ↦ (
-      let o = odd-plain (drop 2 bodyAt) e in
-      let t = in-text s (o .0) (o .1) in
-      let c = h (p + 4 + o .0) t in
-      let q = text-at-from (o .0) t in
-      absurd (elim (o .2) [ inl l ↦ omega (arith, l, q, c .0) | inr l ↦ omega (arith, l, q, c .1) ]))
+        let o = odd-plain (drop 2 bodyAt) e in
+        let t = in-text s (o .0) (o .1) in
+        let c = h (p + 4 + o .0) t in
+        let q = text-at-from (o .0) t in
+        absurd (elim (o .2) [ inl l ↦ omega (arith, l, q, c .0) | inr l ↦ omega (arith, l, q, c .1) ]))
   ]
 
   clean-from : Stands file p → plain (drop 2 bodyAt) ≡ true → (i : ℕ) → InText file p i → (0x20 ≤ getD file i 0) × (getD file i 0 ≤ 0x7E)
@@ -276,10 +276,10 @@ module _ (file : List ℕ) (p : ℕ) where
     | inl e ↦ elim (cases-bool (plain (drop 2 bodyAt))) [
       | inl t ↦ why-sound begun (s, k, z, λ _. clean-from s t)
       | inr t ↦ (
-        let o = odd-plain (drop 2 bodyAt) t in
-        let i = in-text s (o .0) (o .1) in
-        let w : Unprintable file p = (s, e, subst (λ j. Sized j (lengthAt file p)) e z, (p + 4 + o .0, i, subst Odd (text-at-from (o .0) i) (o .2))) in
-        subst (Why begun) (sym (turn-unprintable begun w)) (unprintable w))
+          let o = odd-plain (drop 2 bodyAt) t in
+          let i = in-text s (o .0) (o .1) in
+          let w : Unprintable file p = (s, e, subst (λ j. Sized j (lengthAt file p)) e z, (p + 4 + o .0, i, subst Odd (text-at-from (o .0) i) (o .2))) in
+          subst (Why begun) (sym (turn-unprintable begun w)) (unprintable w))
     ]
     | inr n ↦ why-sound begun (s, k, z, λ e. absurd (n e))
   ]
@@ -300,8 +300,8 @@ module _ (file : List ℕ) (p : ℕ) where
       | inr m ↦ why-size begun s (l, m)
     ]
     | inr l ↦ (
-      let z : kindAt file p ≡ 0 = omega arith in
-      subst (Why begun) (sym (turn-unknown begun (s, inl z))) (unknown (s, inl z)))
+        let z : kindAt file p ≡ 0 = omega arith in
+        subst (Why begun) (sym (turn-unknown begun (s, inl z))) (unknown (s, inl z)))
   ]
 
   why-cut : (begun : Bool) → Cut file p → Why begun (turn begun (drop p file))
@@ -373,7 +373,8 @@ refusals = record {
   fifteen = λ file begun p. (λ h. means file p begun 15 h .0, turn-disordered file p begun);
   only = λ file begun p e h. (let m = means file p begun e h in (m .1, m .2));
   ends = λ file begun p. (λ h. (let z = turn-none begun (drop p file) h in (omega (arith, z .0, length-drop p file), z .1)), λ w. turn-last file p begun (w .0) (w .1));
-  gives = λ file begun p. gives file p begun }
+  gives = λ file begun p. gives file p begun;
+}
 
 -- What the writer refuses.
 
@@ -446,4 +447,5 @@ writes = record {
   fourteen = λ s t. (name-odd s t, odd-name s t);
   flawed = λ r at out e f. wrote-by r at out (Some e) f;
   nine = λ r at out f h. wrote-by r at out None f ∙ no-room (encode r) out at h;
-  taken = λ r at out f h. wrote-by r at out None f ∙ room (encode r) out at (at + length (encode r)) refl h }
+  taken = λ r at out f h. wrote-by r at out None f ∙ room (encode r) out at (at + length (encode r)) refl h;
+}

@@ -86,10 +86,11 @@ value-whole n x h = value-front n x (digits n x) [] h (sym (append-nil (digits n
 triple-read : (g s t : ℕ) (xs : List ℕ) → xs ≡ digits mask-width g ++ (s ∷ t ∷ []) → g < 256 ^ mask-width → (maskAt 0 xs ≡ g) × (getD xs mask-width 0 ≡ s) × (getD xs (mask-width + 1) 0 ≡ t)
 triple-read g s t xs e h =
     let l : length (digits mask-width g) ≡ mask-width = length-digits mask-width g in
-    let one : mask-width + 1 - mask-width ≡ 1 = omega arith in
-    (value-front mask-width g xs (s ∷ t ∷ []) h e,
-    ap (λ u. getD u mask-width 0) e ∙ getD-at (digits mask-width g) s (t ∷ []) 0 mask-width l,
-    ap (λ u. getD u (mask-width + 1) 0) e ∙ getD-append-right (digits mask-width g) (s ∷ t ∷ []) mask-width (mask-width + 1) 0 l (omega arith) ∙ ap (λ i. getD (s ∷ t ∷ []) i 0) one)
+    let one : mask-width + 1 - mask-width ≡ 1 = omega arith in (
+      value-front mask-width g xs (s ∷ t ∷ []) h e,
+      ap (λ u. getD u mask-width 0) e ∙ getD-at (digits mask-width g) s (t ∷ []) 0 mask-width l,
+      ap (λ u. getD u (mask-width + 1) 0) e ∙ getD-append-right (digits mask-width g) (s ∷ t ∷ []) mask-width (mask-width + 1) 0 l (omega arith) ∙ ap (λ i. getD (s ∷ t ∷ []) i 0) one,
+    )
 
 parsed-inner : (r : Rec) → Held r → parsed (getD (inner r) 0 0) (drop 1 (inner r)) ≡ r
 parsed-inner (head n m k w) h = ap (head n m k) (value-whole word-width w h)
@@ -174,17 +175,47 @@ few-back k n fs lo hi = ap (λ t. k ∷ t) (few fs (length fs) refl)
 back : (k : ℕ) → known k ≡ true → Back k
 back k h =
     let b = known-bounds k h in
-    elim (cases-eq k 1) [ inl e ↦ subst Back (sym e) head-back | inr n1 ↦
-    elim (cases-eq k 2) [ inl e ↦ subst Back (sym e) name-back | inr n2 ↦
-    elim (cases-eq k 3) [ inl e ↦ subst Back (sym e) (λ fs lo hi b. entry-back 3 fs (omega arith) b) | inr n3 ↦
-    elim (cases-eq k 4) [ inl e ↦ subst Back (sym e) (λ fs lo hi b. entry-back 4 fs (omega arith) b) | inr n4 ↦
-    elim (cases-eq k 5) [ inl e ↦ subst Back (sym e) (λ fs lo hi b. entry-back 5 fs (omega arith) b) | inr n5 ↦
-    elim (cases-eq k 6) [ inl e ↦ subst Back (sym e) (λ fs lo hi b. triple-back 6 fs (omega arith) b) | inr n6 ↦
-    elim (cases-eq k 7) [ inl e ↦ subst Back (sym e) (λ fs lo hi b. triple-back 7 fs (omega arith) b) | inr n7 ↦
-    elim (cases-eq k 8) [ inl e ↦ subst Back (sym e) (λ fs lo hi b. ap (λ t. 8 ∷ t) (few fs 2 (omega arith))) | inr n8 ↦
-    elim (cases-eq k 9) [ inl e ↦ subst Back (sym e) (λ fs lo hi b. ap (λ t. 9 ∷ t) (few fs 2 (omega arith))) | inr n9 ↦
-    elim (cases-eq k 10) [ inl e ↦ subst Back (sym e) (λ fs lo hi b. ap (λ t. 10 ∷ t) (few fs 3 (omega arith))) | inr n10 ↦
-    let e : k ≡ 11 = omega (arith, n1, n2, n3, n4, n5, n6, n7, n8, n9, n10) in subst Back (sym e) (λ fs lo hi b. ap (λ t. 11 ∷ t) (few fs 1 (omega arith))) ] ] ] ] ] ] ] ] ] ]
+    elim (cases-eq k 1) [
+      | inl e ↦ subst Back (sym e) head-back
+      | inr n1 ↦
+          elim (cases-eq k 2) [
+            | inl e ↦ subst Back (sym e) name-back
+            | inr n2 ↦
+                elim (cases-eq k 3) [
+                  | inl e ↦ subst Back (sym e) (λ fs lo hi b. entry-back 3 fs (omega arith) b)
+                  | inr n3 ↦
+                      elim (cases-eq k 4) [
+                        | inl e ↦ subst Back (sym e) (λ fs lo hi b. entry-back 4 fs (omega arith) b)
+                        | inr n4 ↦
+                            elim (cases-eq k 5) [
+                              | inl e ↦ subst Back (sym e) (λ fs lo hi b. entry-back 5 fs (omega arith) b)
+                              | inr n5 ↦
+                                  elim (cases-eq k 6) [
+                                    | inl e ↦ subst Back (sym e) (λ fs lo hi b. triple-back 6 fs (omega arith) b)
+                                    | inr n6 ↦
+                                        elim (cases-eq k 7) [
+                                          | inl e ↦ subst Back (sym e) (λ fs lo hi b. triple-back 7 fs (omega arith) b)
+                                          | inr n7 ↦
+                                              elim (cases-eq k 8) [
+                                                | inl e ↦ subst Back (sym e) (λ fs lo hi b. ap (λ t. 8 ∷ t) (few fs 2 (omega arith)))
+                                                | inr n8 ↦
+                                                    elim (cases-eq k 9) [
+                                                      | inl e ↦ subst Back (sym e) (λ fs lo hi b. ap (λ t. 9 ∷ t) (few fs 2 (omega arith)))
+                                                      | inr n9 ↦
+                                                          elim (cases-eq k 10) [
+                                                            | inl e ↦ subst Back (sym e) (λ fs lo hi b. ap (λ t. 10 ∷ t) (few fs 3 (omega arith)))
+                                                            | inr n10 ↦
+                                                                let e : k ≡ 11 = omega (arith, n1, n2, n3, n4, n5, n6, n7, n8, n9, n10) in subst Back (sym e) (λ fs lo hi b. ap (λ t. 11 ∷ t) (few fs 1 (omega arith)))
+                                                          ]
+                                                    ]
+                                              ]
+                                        ]
+                                  ]
+                            ]
+                      ]
+                ]
+          ]
+    ]
 
 ruled-ok : (o : Option ℕ) (x r : Rec) → ruled o (Ok x) ≡ Ok r → (o ≡ None) × (x ≡ r)
 ruled-ok None x r h = (refl, cc)

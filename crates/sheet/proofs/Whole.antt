@@ -175,7 +175,8 @@ from-step file at begun rs (Ok (Some p)) rest ih b e h =
     subst (From file at begun) (sym (o .2)) (record {
       order = order-more begun (p .0) (o .0) (s .1) (f .order);
       fair = (decode-fair (drop at file) (p .0) (p .1) bd (s .0), f .fair);
-      bytes = ap (λ u. encode (p .0) ++ u) (f .bytes ∙ d) ∙ encode-decode (drop at file) (p .0) (p .1) bd (s .0) })
+      bytes = ap (λ u. encode (p .0) ++ u) (f .bytes ∙ d) ∙ encode-decode (drop at file) (p .0) (p .1) bd (s .0);
+    })
 from-step file at begun rs (Err x) rest ih b e h = absurd (let z : _≡_ {A = ℕ} 0 1 = cc in omega arith)
 
 from : (n : ℕ) (file : List ℕ) (at : ℕ) (begun : Bool) (rs : List Rec) → Bytes file → readFrom n file at begun ≡ Ok rs → From file at begun rs
@@ -256,4 +257,5 @@ undone = record {
   steps = steps;
   accepted = accepted;
   written = written;
-  over = over }
+  over = over;
+}

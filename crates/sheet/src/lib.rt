@@ -8,8 +8,8 @@ mod writer;
 
 pub use format::Cause;
 pub use format::Fault;
-pub use format::Record;
 pub use format::LONGEST;
+pub use format::Record;
 pub use reader::Reader;
 pub use writer::Writer;
 
@@ -27,3 +27,6 @@ pub fn refusals_stand() -> u8
 {
     0
 }
+
+#[cfg(test)]
+mod tests;

@@ -9,13 +9,13 @@ ghost use Rattle.sheet.specs.Layout.{word-width, mask-width, flaw, maskAt, par
 ghost use Rattle.std.specs.declared.result.Result.the-variants.{Err};
 ghost use Rattle.sheet.specs.Files.{readAll, readsOn, then, unread, Lessens};
 ghost use Rattle.sheet.specs.Steps.{number, meant, insideOf, decodeOf, stepOf, answer, opens, bare, told, turned, Moved};
-use crate::format::check;
 use crate::format::Cause;
 use crate::format::Fault;
 use crate::format::LONGEST;
 use crate::format::MASK_WIDTH;
 use crate::format::Record;
 use crate::format::VERSION;
+use crate::format::check;
 
 // The mask in the first bytes.
 fn mask_of(bytes: &[u8]) -> u64
@@ -48,7 +48,10 @@ fn name_of<'a>(fields: &'a [u8]) -> Record<'a>
     ensures { λ r. ⌜ meant r ≡ parsed 2 (now (fields .entry)) ⌝ }
 {
     match fields {
-        [sensor, text @ ..] => Record::Name { sensor: *sensor, text },
+        [sensor, text @ ..] => Record::Name {
+            sensor: *sensor,
+            text,
+        },
         _ => unreachable(),
     }
 }
@@ -100,9 +103,19 @@ fn parse<'a>(kind: u8, fields: &'a [u8]) -> Record<'a>
             let (g, s, t) = triple_of(fields);
             Record::Roots { g, s, t }
         }
-        8 => Record::Within { a: fields[0], b: fields[1] },
-        9 => Record::Apart { a: fields[0], b: fields[1] },
-        10 => Record::Count { a: fields[0], p: fields[1], q: fields[2] },
+        8 => Record::Within {
+            a: fields[0],
+            b: fields[1],
+        },
+        9 => Record::Apart {
+            a: fields[0],
+            b: fields[1],
+        },
+        10 => Record::Count {
+            a: fields[0],
+            p: fields[1],
+            q: fields[2],
+        },
         _ => Record::Row { a: fields[0] },
     }
 }
@@ -167,8 +180,15 @@ impl<'a> Reader<'a> {
         ensures whole { λ r. ⌜ Cases r (λ x. readAll (now (file .entry)) ≡ readsOn x) (λ f. readAll (now (file .entry)) ≡ Err (number (f .cause), f .position)) ⌝ }
     {
         match file {
-            [VERSION, ..] if file.len() <= LONGEST => Ok(Reader { file, at: 1, begun: false }),
-            _ => Err(Fault { cause: Cause::File, position: 0 }),
+            [VERSION, ..] if file.len() <= LONGEST => Ok(Reader {
+                file,
+                at: 1,
+                begun: false,
+            }),
+            _ => Err(Fault {
+                cause: Cause::File,
+                position: 0,
+            }),
         }
     }
 

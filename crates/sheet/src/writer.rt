@@ -7,10 +7,10 @@ ghost use Rattle.std.specs.Results.{Cases, isErr};
 ghost use Rattle.std.specs.declared.result.Result.the-variants.{Ok, Err};
 ghost use Rattle.sheet.specs.Layout.{version, framed, inner, encode, Held};
 ghost use Rattle.sheet.specs.Steps.{number, meant, placeOf, laid, laidOver, putting, wrote, placeNow, refused, refusal};
-use crate::format::check;
 use crate::format::Cause;
 use crate::format::Record;
 use crate::format::VERSION;
+use crate::format::check;
 
 // Lays a piece over the output.
 fn lay(out: &mut [u8], at: usize, piece: &[u8])

@@ -15,7 +15,8 @@ returns-in-Break-check c =
     let p = err-from-errBy (c .from-residual .result) (c .from-residual .ensures .1) in
     record {
       value = rw (p .1, p .2) (putting-by (c .args .kind) (c .args .front .now) (c .args .back .now) _ _ (c .args .at) (c .args .out .now) refl (c .in-Break-check .ensures tt));
-      after = rw (p .1) refl }
+      after = rw (p .1) refl;
+    }
 
 pub returns-then-saturating-sub-len : need.returns-then-saturating-sub-len
 returns-then-saturating-sub-len c =
@@ -25,7 +26,8 @@ returns-then-saturating-sub-len c =
     let h : length o < c .args .at + length (framed (c .args .kind ∷ (f ++ b))) = omega (arith, length-append f b) in
     record {
       value = sym (no-room (framed (c .args .kind ∷ (f ++ b))) o (c .args .at) h) ∙ putting-by (c .args .kind) f b _ None (c .args .at) o refl (c .in-Continue-check .ensures tt);
-      after = refl }
+      after = refl;
+    }
 
 pub cast-len : need.cast-len
 cast-len c =
@@ -48,4 +50,5 @@ returns c =
     let lo : getD bytes 1 0 ≡ length (k ∷ (f ++ b)) % 256 = omega (arith, s, l, h₁) in
     record {
       value = sym (room (framed (k ∷ (f ++ b))) o at _ (omega (arith, l)) (omega arith)) ∙ putting-by k f b _ None at o refl (c .in-Continue-check .ensures tt);
-      after = laid-record o f b at (getD bytes 0 0) (getD bytes 1 0) k (c .lay .last .out) (c .lay-2 .last .out) (c .lay-3 .last .out) (omega arith) hi lo (c .lay .ensures) (c .lay-2 .ensures) (c .lay-3 .ensures) }
+      after = laid-record o f b at (getD bytes 0 0) (getD bytes 1 0) k (c .lay .last .out) (c .lay-2 .last .out) (c .lay-3 .last .out) (omega arith) hi lo (c .lay .ensures) (c .lay-2 .ensures) (c .lay-3 .ensures);
+    }

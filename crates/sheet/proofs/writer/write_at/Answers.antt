@@ -18,7 +18,8 @@ returns-in-Head c =
     record {
       value = c .put .ensures .value ∙ ap (λ (b : List ℕ). putting (1 ∷ c .in-Head .n ∷ c .in-Head .m ∷ c .in-Head .k ∷ b) b at o) e ∙ ap (λ x. wrote (meant x) at o) (sym (c .in-Head .is));
       after = c .put .ensures .after ∙ ap (λ (b : List ℕ). laidOver r o at (framed (1 ∷ c .in-Head .n ∷ c .in-Head .m ∷ c .in-Head .k ∷ b))) e ∙ ap (λ x. laidOver r o at (encode (meant x))) (sym (c .in-Head .is));
-      held = subst (λ x. Held (meant x)) (sym (c .in-Head .is)) h }
+      held = subst (λ x. Held (meant x)) (sym (c .in-Head .is)) h;
+    }
 
 pub returns-in-Limit : need.returns-in-Limit
 unfolding mask-width
@@ -31,7 +32,8 @@ returns-in-Limit c =
     record {
       value = c .put-in-Limit .ensures .value ∙ ap (λ (b : List ℕ). putting (3 ∷ c .in-Limit .sensor ∷ b) b at o) e ∙ ap (λ x. wrote (meant x) at o) (sym (c .in-Limit .is));
       after = c .put-in-Limit .ensures .after ∙ ap (λ (b : List ℕ). laidOver r o at (framed (3 ∷ c .in-Limit .sensor ∷ b))) e ∙ ap (λ x. laidOver r o at (encode (meant x))) (sym (c .in-Limit .is));
-      held = subst (λ x. Held (meant x)) (sym (c .in-Limit .is)) h }
+      held = subst (λ x. Held (meant x)) (sym (c .in-Limit .is)) h;
+    }
 
 pub returns-in-Claim : need.returns-in-Claim
 unfolding mask-width
@@ -44,7 +46,8 @@ returns-in-Claim c =
     record {
       value = c .put-in-Claim .ensures .value ∙ ap (λ (b : List ℕ). putting (4 ∷ c .in-Claim .set ∷ b) b at o) e ∙ ap (λ x. wrote (meant x) at o) (sym (c .in-Claim .is));
       after = c .put-in-Claim .ensures .after ∙ ap (λ (b : List ℕ). laidOver r o at (framed (4 ∷ c .in-Claim .set ∷ b))) e ∙ ap (λ x. laidOver r o at (encode (meant x))) (sym (c .in-Claim .is));
-      held = subst (λ x. Held (meant x)) (sym (c .in-Claim .is)) h }
+      held = subst (λ x. Held (meant x)) (sym (c .in-Claim .is)) h;
+    }
 
 pub returns-in-Bar : need.returns-in-Bar
 unfolding mask-width
@@ -57,7 +60,8 @@ returns-in-Bar c =
     record {
       value = c .put-in-Bar .ensures .value ∙ ap (λ (b : List ℕ). putting (5 ∷ c .in-Bar .set ∷ b) b at o) e ∙ ap (λ x. wrote (meant x) at o) (sym (c .in-Bar .is));
       after = c .put-in-Bar .ensures .after ∙ ap (λ (b : List ℕ). laidOver r o at (framed (5 ∷ c .in-Bar .set ∷ b))) e ∙ ap (λ x. laidOver r o at (encode (meant x))) (sym (c .in-Bar .is));
-      held = subst (λ x. Held (meant x)) (sym (c .in-Bar .is)) h }
+      held = subst (λ x. Held (meant x)) (sym (c .in-Bar .is)) h;
+    }
 
 pub returns-in-Range : need.returns-in-Range
 unfolding mask-width
@@ -70,7 +74,8 @@ returns-in-Range c =
     record {
       value = c .put-in-Range .ensures .value ∙ ap (λ (b : List ℕ). putting (6 ∷ (b ++ (c .in-Range .s ∷ c .in-Range .t ∷ []))) (c .in-Range .s ∷ c .in-Range .t ∷ []) at o) e ∙ ap (λ x. wrote (meant x) at o) (sym (c .in-Range .is));
       after = c .put-in-Range .ensures .after ∙ ap (λ (b : List ℕ). laidOver r o at (framed (6 ∷ (b ++ (c .in-Range .s ∷ c .in-Range .t ∷ []))))) e ∙ ap (λ x. laidOver r o at (encode (meant x))) (sym (c .in-Range .is));
-      held = subst (λ x. Held (meant x)) (sym (c .in-Range .is)) h }
+      held = subst (λ x. Held (meant x)) (sym (c .in-Range .is)) h;
+    }
 
 pub returns-in-Roots : need.returns-in-Roots
 unfolding mask-width
@@ -83,4 +88,5 @@ returns-in-Roots c =
     record {
       value = c .put-in-Roots .ensures .value ∙ ap (λ (b : List ℕ). putting (7 ∷ (b ++ (c .in-Roots .s ∷ c .in-Roots .t ∷ []))) (c .in-Roots .s ∷ c .in-Roots .t ∷ []) at o) e ∙ ap (λ x. wrote (meant x) at o) (sym (c .in-Roots .is));
       after = c .put-in-Roots .ensures .after ∙ ap (λ (b : List ℕ). laidOver r o at (framed (7 ∷ (b ++ (c .in-Roots .s ∷ c .in-Roots .t ∷ []))))) e ∙ ap (λ x. laidOver r o at (encode (meant x))) (sym (c .in-Roots .is));
-      held = subst (λ x. Held (meant x)) (sym (c .in-Roots .is)) h }
+      held = subst (λ x. Held (meant x)) (sym (c .in-Roots .is)) h;
+    }
