@@ -1,6 +1,6 @@
 -- Each refusal of the reader has its cause.
 use mathlib.Core.Path.{_≡_, refl, sym, ap, subst, _∙_}
-use mathlib.Core.List.{List, [], _∷_, _++_}
+use mathlib.Core.List.{List, [], _∷_}
 use mathlib.Core.Bool.{Bool, true, false, not, cond}
 use mathlib.Core.Logic.{_⊎_, inl, inr}
 use Prim.Native.Nat.{ℕ, zero, suc, _+_, _-_, _*_, _<_, _≤_}
@@ -12,13 +12,13 @@ use Rattle.std.specs.declared.result.Result.the-variants.{Ok, Err}
 use Rattle.std.specs.declared.option.Option.{Option}
 use Rattle.std.specs.declared.option.Option.the-variants.{Some, None}
 use Rattle.std.specs.Orderings.{When}
-use Rattle.std.proofs.shelf.Lists.{getD-take, getD-drop, drop-all}
-use Rattle.std.proofs.shelf.Tests.{cases-eq, cases-lt, cases-bool, eq-eqb, ne-eqb, eqb-true, le-leb, lt-leb, lt-ltb, le-ltb, leb-true, cond-true, cond-false, cond-both, both-ways}
+use Rattle.std.proofs.shelf.Lists.{getD-take, getD-drop}
+use Rattle.std.proofs.shelf.Tests.{cases-eq, cases-lt, cases-bool, eq-eqb, ne-eqb, eqb-true, le-leb, lt-leb, lt-ltb, le-ltb, cond-true, cond-false, cond-both, both-ways}
 use Rattle.std.proofs.shelf.Ways.{tells}
-use Rattle.sheet.specs.Layout.{Rec, head, name, limit, claim, bar, range, roots, within, apart, count, row, word-width, mask-width, digits, inner, framed, encode, flawOf, version, longest, known, least, greatest, sized, plainByte, plain, flaw, ruled, parsed, inside, counted, taking, decode, headed}
+use Rattle.sheet.specs.Layout.{Rec, head, name, limit, claim, bar, range, roots, within, apart, count, row, word-width, mask-width, digits, inner, encode, flawOf, longest, known, least, greatest, sized, plainByte, plain, flaw, ruled, parsed, inside, counted, taking, decode, headed}
 use Rattle.sheet.specs.Steps.{opens, ordered, turn, wrote, placed}
-use Rattle.sheet.specs.Refusals.{Exactly, lengthAt, kindAt, Stands, Known, Sized, InText, Clean, Sound, Misplaced, Unopened, Cut, Unknown, Missized, Unprintable, Disordered, Given, Refusals, Writes}
-use Rattle.sheet.proofs.Records.{decode-by, sized-bounds, known-bounds}
+use Rattle.sheet.specs.Refusals.{lengthAt, kindAt, Stands, Known, Sized, InText, Sound, Misplaced, Unopened, Cut, Unknown, Missized, Unprintable, Disordered, Given, Refusals, Writes}
+use Rattle.sheet.proofs.Records.{decode-by}
 use Rattle.sheet.proofs.Numbers.{length-digits}
 use Rattle.sheet.proofs.Outputs.{no-room, room}
 use Rattle.sheet.proofs.Whole.{turn-end, turn-more, turn-none}

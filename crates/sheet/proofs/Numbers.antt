@@ -1,16 +1,15 @@
 -- Numbers as bytes, for any width.
 use mathlib.Core.Path.{_≡_, refl, sym, ap, _∙_}
-use mathlib.Core.List.{List, [], _∷_, _++_}
-use mathlib.Core.Bool.{Bool, true, false, cond}
+use mathlib.Core.List.{List, [], _∷_}
 use Prim.Native.Nat.{ℕ, zero, suc, _+_, _-_, _*_, _/_, _%_, _^_, _<_, _≤_, min}
 use native.Mathlib.Nat.{mod-eq-of-lt, mul-add-div-right, mul-add-mod-self-right, mul-assoc, pow-succ', pow-le-pow-right}
 use native.Mathlib.Omega.{arith}
 use lib.Arith.{mod-mul, digits-div, digits-lt}
-use lib.ListN.{length, getD, take, drop, length-take, length-drop}
-use Rattle.std.proofs.shelf.Lists.{drop-more, drop-all, take-at, take-all}
+use lib.ListN.{length, getD, take, drop, length-take}
+use Rattle.std.proofs.shelf.Lists.{drop-more, drop-all, take-all}
 use Rattle.std.proofs.shelf.Parts.{between-to-end}
 use Rattle.std.proofs.shelf.Tests.{cases-lt}
-use Rattle.std.proofs.shelf.Elements.{all-getD, all-take, all-drop}
+use Rattle.std.proofs.shelf.Elements.{all-take}
 use mathlib.Core.Logic.{inl, inr}
 use Rattle.sheet.specs.Layout.{value, digits, Bytes, word-width, mask-width}
 

@@ -6,15 +6,15 @@ use Prim.Native.Nat.{ℕ, _+_, _-_, _/_, _%_, _<_, _≤_}
 use native.Mathlib.Omega.{arith}
 use lib.Dec.{leb}
 use lib.ListN.{length, take, drop, length-append, length-take}
-use borrow.Rule.Slice.PartMut.{putMid, postOf}
+use borrow.Rule.Slice.PartMut.{putMid}
 use Rattle.std.specs.declared.option.Option.{Option}
 use Rattle.std.specs.declared.option.Option.the-variants.{Some, None}
 use Rattle.std.specs.declared.result.Result.{Result}
 use Rattle.std.specs.declared.result.Result.the-variants.{Ok, Err}
 use Rattle.std.proofs.shelf.Lists.{drop-drop, take-at, drop-at}
-use Rattle.std.proofs.shelf.Tests.{le-leb, lt-leb, cond-true, cond-false}
-use Rattle.sheet.specs.Layout.{flaw, ruled, framed}
-use Rattle.sheet.specs.Steps.{laid, placed, putting}
+use Rattle.std.proofs.shelf.Tests.{leb-true, le-leb, lt-leb, cond-true, cond-false}
+use Rattle.sheet.specs.Layout.{Rec, flaw, flawOf, ruled, framed, encode}
+use Rattle.sheet.specs.Steps.{laid, placed, putting, wrote}
 
 pub laid-part : (out piece new : List ℕ) (at : ℕ) → new ≡ piece → putMid at (at + length piece - at) out new ≡ laid out at piece
 laid-part out piece new at e =
@@ -60,3 +60,26 @@ pub putting-by : (k : ℕ) (front back : List ℕ) (n : ℕ) (o : Option ℕ) (a
 putting-by k front back n o at out e h =
     let l : n ≡ length (k ∷ (front ++ back)) = omega (arith, e, length-append front back) in
     ap (λ u. ruled u (placed (framed (k ∷ (front ++ back))) at out)) (h ∙ ap (λ m. flaw k m back) l)
+
+-- What was written grows by the record.
+
+placed-in : (b : Bool) (m n : ℕ) → _≡_ {A = Result ℕ ℕ} (Ok n) (cond b (Ok m) (Err 9)) → (b ≡ true) × (n ≡ m)
+placed-in true m n h = (refl, cc)
+placed-in false m n h = (cc, cc)
+
+placed-ok : (o : Option ℕ) (piece : List ℕ) (at n : ℕ) (out : List ℕ) → Ok n ≡ ruled o (placed piece at out) → (n ≡ at + length piece) × (n ≤ length out)
+placed-ok None piece at n out h =
+    let q = placed-in (leb (at + length piece) (length out)) (at + length piece) n h in
+    (q .1, omega (arith, q .1, leb-true (at + length piece) (length out) (q .0)))
+placed-ok (Some e) piece at n out h = absurd (let z : _≡_ {A = ℕ} 0 1 = cc in omega arith)
+
+wrote-ok : (r : Rec) (at n : ℕ) (out : List ℕ) → Ok n ≡ wrote r at out → (n ≡ at + length (encode r)) × (n ≤ length out)
+wrote-ok r at n out h = placed-ok (flawOf r) (encode r) at n out h
+
+pub grows : (r : Rec) (at n : ℕ) (out new : List ℕ) → Ok n ≡ wrote r at out → new ≡ laid out at (encode r) → take n new ≡ take at out ++ encode r
+grows r at n out new h e =
+    let w = wrote-ok r at n out h in
+    let a : List ℕ = take at out in
+    let l : length a ≡ at = simp length-take (omega (arith, w .0, w .1)) in
+    let m : length (a ++ encode r) ≡ n = simp length-append (omega (arith, l, w .0)) in
+    ap (take n) (e ∙ sym (append-assoc a (encode r) (drop (at + length (encode r)) out))) ∙ take-at (a ++ encode r) (drop (at + length (encode r)) out) n m

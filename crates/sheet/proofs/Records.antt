@@ -3,9 +3,9 @@ use mathlib.Core.Path.{_≡_, refl, sym, ap, subst, _∙_}
 use mathlib.Core.List.{List, [], _∷_, _++_}
 use mathlib.Core.Bool.{Bool, true, false, cond}
 use mathlib.Core.Logic.{inl, inr}
-use Prim.Native.Nat.{ℕ, zero, suc, _+_, _-_, _*_, _/_, _%_, _^_, _<_, _≤_}
+use Prim.Native.Nat.{ℕ, suc, _+_, _-_, _/_, _%_, _^_, _<_, _≤_}
 use native.Mathlib.Omega.{arith}
-use lib.Dec.{leb, ltb, eqb}
+use lib.Dec.{ltb, eqb}
 use lib.ListN.{length, getD, take, drop, length-append, length-drop, length-take, take-append-drop}
 use Rattle.std.specs.declared.option.Option.{Option}
 use Rattle.std.specs.declared.option.Option.the-variants.{Some, None}
@@ -168,9 +168,6 @@ head-back fs lo hi b =
 
 name-back : Back 2
 name-back fs lo hi b = ap (λ t. 2 ∷ t) (sym (drop-more fs 0 0 (omega arith)))
-
-few-back : (k n : ℕ) (fs : List ℕ) → n ≤ suc (length fs) → suc (length fs) ≤ n → k ∷ items fs 0 (length fs) ≡ k ∷ fs
-few-back k n fs lo hi = ap (λ t. k ∷ t) (few fs (length fs) refl)
 
 back : (k : ℕ) → known k ≡ true → Back k
 back k h =

@@ -3,7 +3,7 @@ use mathlib.Core.Path.{_≡_}
 use mathlib.Core.List.{List, [], _∷_, _++_}
 use mathlib.Core.Bool.{Bool, true, false, cond}
 use Prim.Native.Nat.{ℕ, zero, suc, _+_, _<_, _≤_}
-use lib.ListN.{length, drop}
+use lib.ListN.{length, take, drop}
 use Rattle.std.specs.shelf.Lists.{All, joined}
 use Rattle.std.specs.declared.result.Result.{Result}
 use Rattle.std.specs.declared.result.Result.the-variants.{Ok, Err}
@@ -11,6 +11,7 @@ use Rattle.std.specs.declared.option.Option.{Option}
 use Rattle.std.specs.declared.option.Option.the-variants.{Some, None}
 use denote.Ref.{now}
 use Rattle.sheet.specs.declared.reader.Reader.{Reader}
+use Rattle.sheet.specs.declared.writer.Writer.{Writer}
 use Rattle.sheet.specs.Layout.{Rec, version, longest, Bytes, Held, flawOf, headed, encode, decode}
 use Rattle.sheet.specs.Steps.{opens, turn}
 
@@ -60,6 +61,14 @@ Lessens (Err f) xs ys = ys ≡ xs
 abbrev pub writeAll : List Rec → List ℕ
 writeAll rs = version ∷ joined encode rs
 
+-- what a writer has written, and what it has after one more call
+abbrev pub bytesOf : Writer → List ℕ
+bytesOf w = take (w .place) (now (w .out))
+
+abbrev pub grown : Option ℕ → List ℕ → List ℕ → List ℕ
+grown None bs piece = bs ++ piece
+grown (Some e) bs piece = bs
+
 -- the writer takes the record
 abbrev pub Fair : Rec → Type 0
 Fair r = Held r × (flawOf r ≡ None)
@@ -78,6 +87,8 @@ pub record Undone : Type 0 where
   pub steps : (file : List ℕ) (at : ℕ) (begun : Bool) → readOn file at begun ≡ follow (turn begun (drop at file)) at (λ next. readOn file next true)
   -- the records of an accepted file are a sheet, and written they give its bytes
   pub accepted : (file : List ℕ) (rs : List Rec) → Bytes file → readAll file ≡ Ok rs → Sheet rs × (writeAll rs ≡ file)
+  -- one more record written is one more at the end
+  pub more : (rs : List Rec) (r : Rec) → writeAll rs ++ encode r ≡ writeAll (rs ++ (r ∷ []))
   -- a sheet that is not too long reads back, and a longer one is refused
   pub written : (rs : List Rec) → Sheet rs → length (writeAll rs) ≤ longest → readAll (writeAll rs) ≡ Ok rs
   pub over : (rs : List Rec) → longest < length (writeAll rs) → readAll (writeAll rs) ≡ Err (10, 0)

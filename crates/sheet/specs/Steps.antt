@@ -1,8 +1,8 @@
 -- The steps of the reader and the writer, and what a whole file reads as.
 use mathlib.Core.Path.{_≡_}
-use mathlib.Core.List.{List, [], _∷_, _++_}
+use mathlib.Core.List.{List, _++_}
 use mathlib.Core.Bool.{Bool, true, false, cond}
-use Prim.Native.Nat.{ℕ, zero, suc, _+_, _<_, _≤_}
+use Prim.Native.Nat.{ℕ, _+_}
 use lib.Dec.{leb, eqb}
 use lib.ListN.{length, getD, take, drop}
 use denote.Ref.{now}
@@ -16,7 +16,7 @@ use Rattle.sheet.specs.declared.format.Fault.{Fault}
 use Rattle.sheet.specs.declared.format.Record.{Record}
 use Rattle.sheet.specs.declared.format.Record.the-variants.{Head, Name, Limit, Claim, Bar, Range, Roots, Within, Apart, Count, Row}
 use Rattle.sheet.specs.declared.reader.Reader.{Reader}
-use Rattle.sheet.specs.Layout.{Rec, head, name, limit, claim, bar, range, roots, within, apart, count, row, version, longest, flaw, ruled, inner, framed, encode, decode, headed}
+use Rattle.sheet.specs.Layout.{Rec, head, name, limit, claim, bar, range, roots, within, apart, count, row, version, longest, flaw, ruled, inner, framed, decode, headed}
 
 -- the number of each refusal
 abbrev pub number : Cause → ℕ

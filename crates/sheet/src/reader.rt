@@ -1,8 +1,8 @@
 //! Reads the records of a file, one at a time.
 ghost use mathlib.Core.Path.{_≡_};
 ghost use mathlib.Core.Bool.{true, false};
-ghost use Prim.Native.Nat.{ℕ, _+_, _<_, _≤_};
-ghost use lib.ListN.{length, getD, take, drop};
+ghost use Prim.Native.Nat.{_+_, _<_, _≤_};
+ghost use lib.ListN.{length, getD, drop};
 ghost use Rattle.std.specs.declared.option.Option.the-variants.{None};
 ghost use Rattle.std.specs.Results.{Cases, isErr};
 ghost use Rattle.sheet.specs.Layout.{word-width, mask-width, flaw, maskAt, parsed, inside, decode, headed as isHead};
@@ -207,7 +207,7 @@ impl<'a> Reader<'a> {
         *at
     }
 
-    // The next record, or none at the end. A refusal leaves the reader as it was.
+    // Takes the next step. What is refused has no position yet.
     fn advance(&mut self) -> Result<Option<Record<'a>>, Cause>
         ensures value { λ r. ⌜ stepOf r ≡ bare (turned (now (self .entry))) ⌝ }
         ensures moved { λ _. ⌜ Moved (now (self .entry)) (now (self .exit)) ⌝ }

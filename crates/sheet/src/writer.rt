@@ -1,11 +1,12 @@
 //! Writes records into a lent output.
 ghost use mathlib.Core.Path.{_≡_};
-ghost use mathlib.Core.List.{_∷_, _++_};
-ghost use Prim.Native.Nat.{ℕ, _+_, _<_, _≤_};
-ghost use lib.ListN.{length, take, drop};
-ghost use Rattle.std.specs.Results.{Cases, isErr};
+ghost use mathlib.Core.List.{[], _∷_, _++_};
+ghost use Prim.Native.Nat.{_+_, _<_, _≤_};
+ghost use lib.ListN.{length, drop};
+ghost use Rattle.std.specs.Results.{Cases};
 ghost use Rattle.std.specs.declared.result.Result.the-variants.{Ok, Err};
-ghost use Rattle.sheet.specs.Layout.{version, framed, inner, encode, Held};
+ghost use Rattle.sheet.specs.Layout.{version, framed, encode, Held};
+ghost use Rattle.sheet.specs.Files.{bytesOf, grown, writeAll};
 ghost use Rattle.sheet.specs.Steps.{number, meant, placeOf, laid, laidOver, putting, wrote, placeNow, refused, refusal};
 use crate::format::Cause;
 use crate::format::Record;
@@ -70,7 +71,8 @@ pub struct Writer<'a> {
 impl<'a> Writer<'a> {
     /// Begins a file with the version byte.
     pub fn begin(out: &'a mut [u8]) -> Result<Writer<'a>, Cause>
-        ensures { λ r. ⌜ Cases r (λ w. (0 < length (now (out .entry))) × (now (w .out) ≡ version ∷ drop 1 (now (out .entry))) × (w .place ≡ 1)) (λ e. (length (now (out .entry)) ≡ 0) × (number e ≡ 9)) ⌝ }
+        ensures whole { λ r. ⌜ Cases r (λ w. bytesOf w ≡ writeAll []) (λ _. length (now (out .entry)) ≡ 0) ⌝ }
+        ensures value { λ r. ⌜ Cases r (λ w. (0 < length (now (out .entry))) × (now (w .out) ≡ version ∷ drop 1 (now (out .entry))) × (w .place ≡ 1)) (λ e. (length (now (out .entry)) ≡ 0) × (number e ≡ 9)) ⌝ }
     {
         if out.is_empty() {
             return Err(Cause::Room);
@@ -84,6 +86,7 @@ impl<'a> Writer<'a> {
         ensures value { λ r. ⌜ refused r ≡ refusal (wrote (meant (now (one .entry))) (now (self .entry) .place) (now (now (self .entry) .out))) ⌝ }
         ensures place { λ _. ⌜ now (self .exit) .place ≡ placeNow (wrote (meant (now (one .entry))) (now (self .entry) .place) (now (now (self .entry) .out))) (now (self .entry) .place) ⌝ }
         ensures out { λ _. ⌜ now (now (self .exit) .out) ≡ laidOver (wrote (meant (now (one .entry))) (now (self .entry) .place) (now (now (self .entry) .out))) (now (now (self .entry) .out)) (now (self .entry) .place) (encode (meant (now (one .entry)))) ⌝ }
+        ensures whole { λ r. ⌜ bytesOf (now (self .exit)) ≡ grown (refused r) (bytesOf (now (self .entry))) (encode (meant (now (one .entry)))) ⌝ }
         ensures held { λ _. ⌜ Held (meant (now (one .entry))) ⌝ }
     {
         let place = self.place;
@@ -93,7 +96,7 @@ impl<'a> Writer<'a> {
 
     /// What was written so far.
     pub fn written(&self) -> &[u8]
-        ensures { λ r. ⌜ now r ≡ take (now (self .entry) .place) (now (now (self .entry) .out)) ⌝ }
+        ensures { λ r. ⌜ now r ≡ bytesOf (now (self .entry)) ⌝ }
     {
         &self.out[..self.place.min(self.out.len())]
     }

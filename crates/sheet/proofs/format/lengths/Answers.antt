@@ -1,6 +1,4 @@
-use mathlib.Core.Path.{_≡_, refl}
 use native.Mathlib.Omega.{arith}
-use borrow.Author.Needs.{needs}
 use Rattle.std.proofs.shelf.Ways.{tells}
 use Rattle.sheet.specs.Layout.{word-width, mask-width}
 use Rattle.sheet.proofs.format.lengths.Needs as need

@@ -1,8 +1,6 @@
-use mathlib.Core.Path.{_≡_}
-use Prim.Native.Nat.{ℕ, _+_, _≤_}
+use Prim.Native.Nat.{_+_}
 use native.Mathlib.Omega.{arith}
 use lib.ListN.{length, drop}
-use Rattle.sheet.specs.Layout.{least, greatest}
 use Rattle.sheet.proofs.Records.{length-is}
 use Rattle.sheet.proofs.reader.parse.Needs as need
 

@@ -1,5 +1,4 @@
-use mathlib.Core.Path.{_≡_}
-use Rattle.sheet.specs.Steps.{answer, number, meantIf, turned}
+use Rattle.sheet.specs.Steps.{number, meantIf, turned}
 use Rattle.sheet.proofs.Whole.{told-by, told-fault, walked, lessened}
 use Rattle.sheet.proofs.reader.Reader.next.Needs as need
 
