@@ -1,0 +1,5 @@
+pub mod Numbers
+pub mod Records
+pub mod Outputs
+pub mod Whole
+pub mod Causes

@@ -1,0 +1,4 @@
+pub mod Layout
+pub mod Steps
+pub mod Files
+pub mod Refusals
