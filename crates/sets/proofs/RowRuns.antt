@@ -210,17 +210,17 @@ module _ (l h : ℕ) (bl : l < 2 ^ 64) (z : l ≡ 0 → ⊥) where
 
 -- ---- where lo has none
 
-module _ (l h : ℕ) (z : l ≡ 0) where
+module _ (k h : ℕ) where
   -- the one member of h is in every row within h
-  keeps-single : (k m : ℕ) → is-row k m ≡ true → within m h ≡ true → ones h ≡ 1 → within h m ≡ true
-  keeps-single k m row q o =
+  keeps-single : (m : ℕ) → is-row k m ≡ true → within m h ≡ true → ones h ≡ 1 → within h m ≡ true
+  keeps-single m row q o =
       let u = first m m in
       let e = first-has m m (small m) (ne-eqb m 0 (λ n. omega (arith, row-some k m row))) in
       ap (λ t. within t m) (one-has h u o (within-has m h q u e)) ∙ single-within u m e
 
   -- every member of h is a row
-  free-spread : (k : ℕ) → (h ≡ 0 → ⊥) → (ones h ≡ 1 → ⊥) → Spread (is-row k) k 0 h
-  free-spread k n o = record {
+  free-spread : (h ≡ 0 → ⊥) → (ones h ≡ 1 → ⊥) → Spread (is-row k) k 0 h
+  free-spread n o = record {
     base = (2 ^ u, none-in u, single-within u h here, single-row k u);
     top = λ v e. (2 ^ v, none-in v, single-within v h e, single-row k v, single-has v);
     low = λ v _ _. elim (cases-bool (has h v)) [
@@ -248,7 +248,7 @@ module _ (k : ℕ) (kk : k ≤ 64) (l h : ℕ) where
       elim (cases-eq h 0) [
         | inl n ↦ absurd (omega (arith, row-some k m row, within-le m h q))
         | inr n ↦ elim (cases-eq (ones h) 1) [
-          | inl o ↦ ap (λ t. within t m) (in-single l h z n o) ∙ keeps-single l h z k m row q o
+          | inl o ↦ ap (λ t. within t m) (in-single l h z n o) ∙ keeps-single k h m row q o
           | inr o ↦ ap (λ t. within t m) (in-free l h z n o) ∙ eq-eqb 0 0 refl
         ]
       ],
@@ -270,7 +270,7 @@ module _ (k : ℕ) (kk : k ≤ 64) (l h : ℕ) where
           | inl n ↦ absurd (omega (arith, in-dead l h z n, within-le (row-in l h) h s))
           | inr n ↦ elim (cases-eq (ones h) 1) [
             | inl o ↦ subst₂ (λ a b. Spread (is-row k) k a b) (sym (a ∙ in-single l h z n o)) (sym b) (ends-spread (is-row k) k h h (within-self h) (one-row n o) (one-row n o))
-            | inr o ↦ subst₂ (λ a b. Spread (is-row k) k a b) (sym (a ∙ in-free l h z n o)) (sym b) (free-spread l h z k n o)
+            | inr o ↦ subst₂ (λ a b. Spread (is-row k) k a b) (sym (a ∙ in-free l h z n o)) (sym b) (free-spread k h n o)
           ]
         ]
     | inr z ↦
