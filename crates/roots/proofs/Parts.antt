@@ -54,9 +54,9 @@ each-at P g s t (suc n) a i h =
 
 -- ---- what they say
 
-agree-forth : (p q : Bool) → agree p q ≡ true → (not p || q) ≡ true
-agree-forth true q e = e
-agree-forth false q e = refl
+agree-there : (p q : Bool) → agree p q ≡ true → (not p || q) ≡ true
+agree-there true q e = e
+agree-there false q e = refl
 
 agree-back : (p q : Bool) → agree p q ≡ true → (not q || p) ≡ true
 agree-back true true e = refl
@@ -89,7 +89,7 @@ module _ (bd : Board) (g s t : ℕ) (x : Layout) where
 
   said : (i : ℕ) → agree (within-s i) (has g i && within-t i) ≡ true → All Said (own g s t i)
   said i = elim (has g i) as (λ b. agree (within-s i) (b && within-t i) ≡ true → All Said (cond b (Implies i s t ∷ ImpliedBy i s t ∷ []) (Excluded i s ∷ []))) [
-    | true ↦ λ e. (agree-forth (within-s i) (within-t i) e, (agree-back (within-s i) (within-t i) e, tt))
+    | true ↦ λ e. (agree-there (within-s i) (within-t i) e, (agree-back (within-s i) (within-t i) e, tt))
     | false ↦ λ e. (agree-none (within-s i) e, tt)
   ]
 
@@ -152,9 +152,10 @@ roots-lawful = record {
 pub roots-restful : Restful roots-fault roots-run
 roots-restful = record { rests = λ bd some r f. bundle-rests bd some (implied bd) (implication-run bd) (parts bd r) (each-laws bd some (parts bd r)) }
 
-pub parts-run : (bd : Board) (r : Roots) → roots-fault bd r ≡ 0 → (b : Box)
-    → settled bd (map (asked implication-fault implication-run bd) (implications (r .g) (r .s) (r .t) (bd .sensors))) b ≡ roots-run bd r b
-parts-run bd r e b = ap (λ q. settled bd q b) (asked-all implication-fault implication-run bd (parts bd r) (all-fit bd (r .g) (r .s) (r .t) (rooted bd (r .g) (r .s) (r .t) e)))
+-- settling the implications as they are asked is the run
+pub parts-run : (bd : Board) (r : Roots) → roots-fault bd r ≡ 0 → (b after : Box)
+    → after ≡ settled bd (map (asked implication-fault implication-run bd) (implications (r .g) (r .s) (r .t) (bd .sensors))) b → after ≡ roots-run bd r b
+parts-run bd r e b after q = q ∙ ap (λ q. settled bd q b) (asked-all implication-fault implication-run bd (parts bd r) (all-fit bd (r .g) (r .s) (r .t) (rooted bd (r .g) (r .s) (r .t) e)))
 
 -- ---- the list as it is written down
 

@@ -75,8 +75,8 @@ module _ (bd : Board) (some : 0 < bd .sensors) (r : Roots) (b : Box) (at : Resti
   ]
 
   module _ (i : ℕ) (h : i < bd .sensors) (m : has (r .g) i ≡ true) where
-    forth : (c : Choice) → offers bd b c ≡ true → Supported bd (implied bd (Implies i (r .s) (r .t))) b c
-    forth c e = by-own i h true m .0 c (open-choice c e)
+    there : (c : Choice) → offers bd b c ≡ true → Supported bd (implied bd (Implies i (r .s) (r .t))) b c
+    there c e = by-own i h true m .0 c (open-choice c e)
 
     back : (c : Choice) → offers bd b c ≡ true → Supported bd (implied bd (ImpliedBy i (r .s) (r .t))) b c
     back c e = by-own i h true m .1 .0 c (open-choice c e)
@@ -85,7 +85,7 @@ module _ (bd : Board) (some : 0 < bd .sensors) (r : Roots) (b : Box) (at : Resti
     pub member-may : has (lo b (r .s)) i ≡ true → (w : ℕ) → has (cand b i) w ≡ true → has (hi b (r .t)) w ≡ true
     unfolding uses
     member-may e w c =
-        let y = forth (slotted i w) c in
+        let y = there (slotted i w) c in
         let z = eqb-true _ w (and-parts _ _ (y .4) .1) in
         within-has (setOf (y .0) t) (hi b t) (y .2 .under t (on .second)) w (subst (λ k. has (setOf (y .0) t) k ≡ true) z (then _ _ (y .3) (within-has (lo b s) (setOf (y .0) s) (y .2 .over s (on .first)) i e)))
 
@@ -101,7 +101,7 @@ module _ (bd : Board) (some : 0 < bd .sensors) (r : Roots) (b : Box) (at : Resti
     pub joins : has (hi b (r .s)) i ≡ true → (u : ℕ) × (has (cand b i) u ≡ true) × (has (hi b (r .t)) u ≡ true)
     unfolding uses
     joins e =
-        let y = forth (taken s i) e in
+        let y = there (taken s i) e in
         (slotOf (y .0) i, y .2 .slots-in i h, within-has (setOf (y .0) t) (hi b t) (y .2 .under t (on .second)) _ (then _ _ (y .3) (y .4)))
 
     -- may be left out of S: some candidate may be left out of T
@@ -124,6 +124,6 @@ module _ (bd : Board) (some : 0 < bd .sensors) (r : Roots) (b : Box) (at : Resti
     pub spares : has (lo b (r .s)) i ≡ true → (v : ℕ) → v < bd .slots → has (lo b (r .t)) v ≡ false → (u : ℕ) × (has (cand b i) u ≡ true) × (u ≡ v → ⊥)
     unfolding uses
     spares e v l k =
-        let y = forth (omitted t v) (and-from _ _ (and-from _ _ (lt-ltb t (bd .sets) (on .second)) (lt-ltb v (room bd t) (subst (λ n. v < n) (sym room-t) l))) (not-from-false _ k)) in
+        let y = there (omitted t v) (and-from _ _ (and-from _ _ (lt-ltb t (bd .sets) (on .second)) (lt-ltb v (room bd t) (subst (λ n. v < n) (sym room-t) l))) (not-from-false _ k)) in
         let z = then _ _ (y .3) (within-has (lo b s) (setOf (y .0) s) (y .2 .over s (on .first)) i e) in
         (slotOf (y .0) i, y .2 .slots-in i h, λ q. both-ways _ (not-true _ (and-parts _ _ (y .4) .1)) (ap (has (setOf (y .0) t)) (sym q) ∙ z))

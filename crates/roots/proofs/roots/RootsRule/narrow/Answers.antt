@@ -1,4 +1,4 @@
-use mathlib.Core.Path.{sym, _∙_}
+use mathlib.Core.Path.{sym}
 use Rattle.board.specs.Model.{board, model}
 use Rattle.rule.proofs.Answers.{ran, skipped}
 use Rattle.roots.specs.Roots.{roots-fault, roots-run}
@@ -11,7 +11,7 @@ returns-in-Ok c =
     let r = c .args .self .now in
     let z = c .in-Ok .ensures tt in
     let e = c .settle-parts .ensures in
-    let w = ran roots-fault roots-run r d z (e .board) (e .model ∙ parts-run (board d) r (sym z) (model d)) (e .moved) in
+    let w = ran roots-fault roots-run r d z (e .board) (parts-run (board d) r (sym z) (model d) _ (e .model)) (e .moved) in
     record { board = w .board-same; model = w .model-is; moved = w .progress }
 
 pub returns-in-Err : need.returns-in-Err
