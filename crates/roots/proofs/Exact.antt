@@ -7,9 +7,9 @@ use native.Mathlib.Omega.{arith}
 use lib.Bits.{bitOr}
 use Rattle.std.proofs.shelf.Tests.{both-ways, not-true, ltb-true, eqb-true, lt-ltb, eq-eqb, and-parts, cases-eq, cases-bool, and-from, and-left, and-right, or-cases, or-left, or-right, not-from-false, cond-true, cond-false}
 use Rattle.masks.specs.Masks.{has, within, without}
-use Rattle.masks.proofs.Counts.{first, first-has, one-has}
-use Rattle.masks.proofs.Masks.{has-and, has-below, has-or, has-single, has-without, has-zero, within-has}
-use Rattle.masks.proofs.Subsets.{nonzero, single-has, single-other, single-within, within-all, within-or, within-or-l, within-self, within-without, without-within}
+use Rattle.masks.proofs.Counts.{first, first-has}
+use Rattle.masks.proofs.Masks.{has-or, has-single, has-without, within-has}
+use Rattle.masks.proofs.Subsets.{nonzero, single-has, single-other, single-within, within-all, within-or, within-or-l, within-self}
 use Rattle.model.specs.Board.{Board, room}
 use Rattle.model.specs.Box.{Box, Choice, Live, cand, hi, lo, offers, omitted, slotted, taken, uses}
 use Rattle.model.specs.Layout.{Layout, setOf}
@@ -17,12 +17,11 @@ use Rattle.model.specs.Tight.{Supported, below, union}
 use Rattle.model.proofs.Boxes.{choice-live, index-below, live-true, made}
 use Rattle.model.proofs.Lists.{any-mem, any-some, below-mem, every-from, mem-below, union-has}
 use Rattle.model.proofs.Witness.{Fills, Picks, firsts, firsts-pick, hi-fills, lo-fills, put, put-fills, put-other, put-picks, put-same, set-made, slot-made, support}
-use Rattle.roots.specs.Exact.{Decided-exact, Exact, Members-sure, Others-sure, Resting, Sensors-decided, Slots-decided}
+use Rattle.roots.specs.Exact.{Decided-exact, Exact, Members-sure, Resting, Slots-decided}
 use Rattle.roots.specs.Roots.{agree, roots-holds}
-use Rattle.roots.proofs.Bools.{no, off}
+use Rattle.roots.proofs.Bools.{no}
 use Rattle.roots.proofs.Parts.{Rooted}
-use Rattle.roots.proofs.Resting.{dodges, grouped, high-sensor, in-high, joins, leaves, member-may, on, room-s, room-t, spares, sure-member}
-use Rattle.roots.proofs.Runs.{single-apart}
+use Rattle.roots.proofs.Resting.{dodges, grouped, high-sensor, in-high, joins, leaves, member-may, on, room-s, room-t, sure-member}
 use Rattle.roots.specs.declared.roots.Roots.{Roots}
 
 -- ---- the numbers below n that pass, as a mask
@@ -277,96 +276,13 @@ module _ (bd : Board) (some : 0 < bd .sensors) (r : Roots) (b : Box) (at : Resti
     members-exact : Exact bd r b
     members-exact = tuned-exact members-tunings
 
-  -- ---- no sensor of G surely not in S has a candidate that may be in T
-
-  module _ (sure : Others-sure bd r b) where
-    may-join : (i w : ℕ) → i < bd .sensors → has (r .g) i ≡ true → has (cand b i) w ≡ true → has (hi b (r .t)) w ≡ true → has (hi b (r .s)) i ≡ true
-    may-join i w h m c e = elim (cases-bool (has (hi b (r .s)) i)) [
-      | inl y ↦ y
-      | inr y ↦ absurd (both-ways _ (ap (λ z. has z w) (sure i h m y) ∙ has-zero w) (has-and (cand b i) (hi b (r .t)) w ∙ and-from _ _ c e))
-    ]
-
-    member : (i w : ℕ) → i < bd .sensors → has (lo b (r .s)) i ≡ true → has (cand b i) w ≡ true → has (hi b (r .t)) w ≡ true
-    member i w h e c = member-may bd some r b at i h (grouped bd some r b at i (in-high bd some r b at i e)) e w c
-
-    high-tuned : (f : ℕ → ℕ) → Picks bd some b f → Tuned f (hi b (r .t))
-    high-tuned f p = record {
-      picks = p;
-      over = l .bounds (r .t) (o .second);
-      under = within-self (hi b (r .t));
-      lower = λ i h e. member i (f i) h e (p .pick i h);
-      upper = λ i h m e. may-join i (f i) h m (p .pick i h) e;
-    }
-
-    abbrev less : ℕ → ℕ
-    less u = without (hi b (r .t)) (2 ^ u)
-
-    less-not : (u : ℕ) → has (less u) u ≡ false
-    less-not u = has-without (hi b (r .t)) (2 ^ u) u ∙ off _ _ (single-has u)
-
-    -- T leaves u out too: no sensor surely in S may stand there
-    less-tuned : (u : ℕ) → has (lo b (r .t)) u ≡ false → (f : ℕ → ℕ) → Picks bd some b f → ((k : ℕ) → k < bd .sensors → has (lo b (r .s)) k ≡ true → f k ≡ u → ⊥) → Tuned f (less u)
-    less-tuned u q f p none = record {
-      picks = p;
-      over = within-without (lo b (r .t)) (hi b (r .t)) (2 ^ u) (l .bounds (r .t) (o .second)) (single-apart (lo b (r .t)) u q);
-      under = without-within (hi b (r .t)) (2 ^ u);
-      lower = λ i h e. has-without (hi b (r .t)) (2 ^ u) (f i) ∙ and-from _ _ (member i (f i) h e (p .pick i h)) (not-from-false _ (single-other u (f i) (λ z. none i h e (sym z))));
-      upper = λ i h m e. may-join i (f i) h m (p .pick i h) (and-parts _ _ (sym (has-without (hi b (r .t)) (2 ^ u) (f i)) ∙ e) .0);
-    }
-
-    abbrev inside : ℕ → Bool
-    inside k = has (lo b (r .s)) k
-
-    off-others : (u : ℕ) → u < bd .slots → has (lo b (r .t)) u ≡ false → (k : ℕ) → k < bd .sensors → inside k ≡ true → (w : ℕ) × (has (cand b k) w ≡ true) × (w ≡ u → ⊥)
-    off-others u h q k hk e = spares bd some r b at k hk (grouped bd some r b at k (in-high bd some r b at k e)) e u h q
-
-    others-tunings : Tunings
-    others-tunings = record {
-      slot = λ i w h e. (put i w (firsts bd some b l), hi b (r .t), high-tuned _ (placed i w e), put-same i w (firsts bd some b l));
-      top = λ v h. (firsts bd some b l, hi b (r .t), high-tuned _ (firsts-pick bd some b l), h);
-      low = λ v h e. (avoid inside v, less v, less-tuned v e _ (avoid-picks inside v (off-others v h e)) (avoid-not inside v (off-others v h e)), less-not v);
-      joined = λ i e.
-          let j = joins bd some r b at i (high-sensor bd some r b at i e) (grouped bd some r b at i e) e in
-          (put i (j .0) (firsts bd some b l), hi b (r .t), high-tuned _ (placed i (j .0) (j .1)), ap (has (hi b (r .t))) (put-same i (j .0) (firsts bd some b l)) ∙ j .2);
-      left = λ i h m e.
-          let j = leaves bd some r b at i h m e in
-          let u = j .0 in
-          let f = avoid inside u in
-          let d = has-below (bd .slots) (cand b i) u (l .cands-on i h) (j .1) in (
-            put i u f,
-            less u,
-            less-tuned u (j .2) (put i u f) (put-picks bd some b i u f (avoid-picks inside u (off-others u d (j .2))) (j .1))
-                (λ k h y z. elim (cases-eq k i) [
-                  | inl q ↦ both-ways _ e (ap (has (lo b (r .s))) (sym q) ∙ y)
-                  | inr q ↦ avoid-not inside u (off-others u d (j .2)) k h y (sym (put-other i u f k q) ∙ z)
-                ]),
-            ap (has (less u)) (put-same i u f) ∙ less-not u,
-          );
-    }
-
-    others-exact : Exact bd r b
-    others-exact = tuned-exact others-tunings
-
-  -- ---- at rest, decided slots or decided sensors make the members sure
+  -- ---- at rest, decided slots make the members sure
 
   slots-sure : Slots-decided bd r b → Members-sure bd r b
   slots-sure d i h e = within-all (cand b i) (lo b (r .t)) (λ w c.
       ap (λ m. has m w) (eqb-true (lo b (r .t)) (hi b (r .t)) d) ∙ member-may bd some r b at i h (grouped bd some r b at i (in-high bd some r b at i e)) e w c)
 
-  sensors-sure : Sensors-decided bd r b → Members-sure bd r b
-  sensors-sure d i h e =
-      let m = grouped bd some r b at i (in-high bd some r b at i e) in
-      within-all (cand b i) (lo b (r .t)) (λ w c. elim (cases-bool (has (lo b (r .t)) w)) [
-        | inl y ↦ y
-        | inr y ↦
-            let u = spares bd some r b at i h m e w (has-below (bd .slots) (cand b i) w (l .cands-on i h) c) y in
-            absurd (u .2 (single-is w (u .0) (ap (λ z. has z (u .0)) (sym (one-has (cand b i) w (d i h m) c)) ∙ u .1)))
-      ])
-
 pub decided-exact : Decided-exact
 decided-exact bd some r b at = record {
   slots-decided = λ d. members-exact bd some r b at (slots-sure bd some r b at d);
-  members-sure = members-exact bd some r b at;
-  others-sure = others-exact bd some r b at;
-  sensors-decided = λ d. members-exact bd some r b at (sensors-sure bd some r b at d);
 }

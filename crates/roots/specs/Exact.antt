@@ -1,9 +1,7 @@
 -- When a box at rest under a Roots rule is exact: each choice that is left is one of a support. Assumes nothing.
 use mathlib.Core.Path.{_≡_}
-use mathlib.Core.Bool.{true, false}
+use mathlib.Core.Bool.{true}
 use Prim.Native.Nat.{ℕ, _<_}
-use lib.Bits.{bitAnd}
-use lib.Count.{ones}
 use Rattle.masks.specs.Masks.{has, within}
 use Rattle.model.specs.Board.{Board}
 use Rattle.model.specs.Box.{Box, Choice, Live, cand, lo, hi, choice, decided}
@@ -30,20 +28,9 @@ Slots-decided bd r b = decided b (r .t) ≡ true
 abbrev pub Members-sure : Board → Roots → Box → Type 0
 Members-sure bd r b = (i : ℕ) → i < bd .sensors → has (lo b (r .s)) i ≡ true → within (cand b i) (lo b (r .t)) ≡ true
 
--- no sensor of G that is surely not in S has a candidate that may be in T
-abbrev pub Others-sure : Board → Roots → Box → Type 0
-Others-sure bd r b = (i : ℕ) → i < bd .sensors → has (r .g) i ≡ true → has (hi b (r .s)) i ≡ false → bitAnd (cand b i) (hi b (r .t)) ≡ 0
-
--- each sensor of G has one candidate
-abbrev pub Sensors-decided : Board → Roots → Box → Type 0
-Sensors-decided bd r b = (i : ℕ) → i < bd .sensors → has (r .g) i ≡ true → ones (cand b i) ≡ 1
-
--- each of them is enough
+-- enough for it
 pub record Cases (bd : Board) (r : Roots) (b : Box) : Type 0 where
   pub slots-decided : Slots-decided bd r b → Exact bd r b
-  pub members-sure : Members-sure bd r b → Exact bd r b
-  pub others-sure : Others-sure bd r b → Exact bd r b
-  pub sensors-decided : Sensors-decided bd r b → Exact bd r b
 
 abbrev pub Decided-exact : Type 0
 Decided-exact = (bd : Board) → 0 < bd .sensors → (r : Roots) (b : Box) → Resting bd r b → Cases bd r b

@@ -103,7 +103,7 @@ pub fn roots_split() -> u8
     0
 }
 
-// After a settle that is not a dead end, a Roots rule whose slot set is decided supports every choice left; so in three more cases.
+// After a settle that is not a dead end, a Roots rule whose slot set is decided supports every choice left.
 pub fn decided_stands() -> u8
     ensures { λ _. ⌜ Decided-exact ⌝ }
 {
