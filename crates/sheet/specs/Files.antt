@@ -80,7 +80,7 @@ Sheet (r ∷ rs) = (headed r ≡ true) × All (λ x. headed x ≡ false) rs × A
 
 -- reading and writing undo each other
 pub record Undone : Type 0 where
-  -- a record, before any bytes
+  -- a record, whatever bytes follow it
   pub decoded : (r : Rec) (rest : List ℕ) → Fair r → decode (encode r ++ rest) ≡ Ok (r, length (encode r))
   pub encoded : (xs : List ℕ) (r : Rec) (n : ℕ) → Bytes xs → decode xs ≡ Ok (r, n) → encode r ++ drop n xs ≡ xs
   -- reading on is one step, and then reading on
