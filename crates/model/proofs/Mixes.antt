@@ -11,20 +11,20 @@ use Rattle.std.proofs.shelf.Tests.{both-ways, eqb-true, lt-ltb, le-leb, eq-eqb,
 use Rattle.std.proofs.shelf.Elements.{all-weaker}
 use Rattle.model.specs.Board.{Board}
 use Rattle.model.specs.Box.{Box, In, Kept, live, size}
-use Rattle.model.specs.Calls.{Call, Mixes, Mixes-stand, State, after, answer, does, draft, enter, entered, no-place, post, posted, reopen, settle}
+use Rattle.model.specs.Calls.{Call, Keeps-all, Mixes, Mixes-stand, State, after, answer, does, draft, enter, entered, no-place, post, posted, reopen, settle}
 use Rattle.model.specs.Entries.{Entry, bar, claim, entry-causes, keeps, limit, narrow, narrowed, placed}
 use Rattle.model.specs.Laws.{Lawful, Laws, Only, asked, fits}
-use Rattle.model.specs.Layout.{Layout}
+use Rattle.model.specs.Layout.{Layout, On}
 use Rattle.model.specs.Refusals.{earlier, order, rankIn, refusal}
 use Rattle.model.specs.Settled.{settled}
 use Rattle.model.specs.Tight.{tight}
 use Rattle.model.proofs.Asked.{asked-fits, asked-keeps, asked-narrows}
 use Rattle.model.proofs.Boxes.{live-dead}
 use Rattle.model.proofs.Entries.{entry-firm, entry-keeps, entry-narrows, in-live, narrow-is}
-use Rattle.model.proofs.Lists.{all-of-map}
+use Rattle.model.proofs.Lists.{all-of-map, all-to-map}
 use Rattle.model.proofs.Order.{Fewer, ordered}
 use Rattle.model.proofs.Rounds.{Runs}
-use Rattle.model.proofs.Steps.{Step, after-good, answer-alike, entering, entriesOf, history-holds, history-is, narrowed-good, narrowed-parts, postedOf, posting, resettling, settle-is, walked}
+use Rattle.model.proofs.Steps.{Step, after-good, answer-alike, entering, entriesOf, history-holds, history-is, narrowed-good, narrowed-parts, postedOf, posting, resettling, settle-is, settled-holds, walked}
 use Rattle.model.proofs.Tight.{runs-of, tightness}
 
 pub earlier-none : (a b : ℕ) → earlier a b ≡ 0 → a ≡ 0
@@ -182,7 +182,7 @@ module _ {R : Type 0} {fault : Board → R → ℕ} {holds : Board → R → Lay
       ∙ history-is (Kept bd) (Fewer bd some) (size bd) (ordered bd some) (narrow bd) (asked fault run bd) cuts runs (entry-firm bd some) (steps fault run g s) start k
       ∙ ap₂ alone (entered-is fault run g s) (posted-is fault run g s)
 
-  mix-kept : (p : ℕ) (g : List (Call R)) → Kept bd (after fault run g (from-places p) .box)
+  pub mix-kept : (p : ℕ) (g : List (Call R)) → Kept bd (after fault run g (from-places p) .box)
   mix-kept p g = subst (Kept bd) (after-box fault run g (from-places p))
       (after-good (Kept bd) (Fewer bd some) (size bd) (ordered bd some) (narrow bd) (asked fault run bd) cuts runs (entry-firm bd some) (steps fault run g (from-places p)) [] start k)
 
@@ -207,19 +207,45 @@ module _ {R : Type 0} {fault : Board → R → ℕ} {holds : Board → R → Lay
     entry-kept b kb x o es (p .1) (a .1),
   )
 
+  -- a last settle of the accepted rules
+  last-settle : (p : ℕ) (g : List (Call R)) → does fault run settle (after fault run g (from-places p)) .box ≡ settled bd (map (asked fault run bd) (posted fault run g (from-places p))) (after fault run g (from-places p) .box)
+  last-settle p g =
+      let s = from-places p in
+      ap (λ o. settled o (map (asked fault run o) (after fault run g s .rules)) (after fault run g s .box)) (after-board fault run g s)
+      ∙ ap (λ rs. settled bd (map (asked fault run bd) rs) (after fault run g s .box)) (rules-are fault run g s)
+
+  pub mix-settled-kept : (p : ℕ) (g : List (Call R)) → Kept bd (does fault run settle (after fault run g (from-places p)) .box)
+  mix-settled-kept p g = subst (Kept bd) (sym (last-settle p g))
+      (settle-is (Kept bd) (Fewer bd some) (size bd) (ordered bd some) (narrow bd) (asked fault run bd) cuts runs (entry-firm bd some) (posted fault run g (from-places p)) _ (mix-kept p g) .good)
+
+  -- a rule that holds at a layout keeps it
+  abbrev Holds-on : Layout → R → Type 0
+  Holds-on x r = (b : Box) → Kept bd b × In bd x b → Kept bd (asked fault run bd r b) × In bd x (asked fault run bd r b)
+
+  rule-keeps : (x : Layout) → On bd x → (rs : List R) → All (λ r. holds bd r x ≡ true) rs → All (Holds-on x) rs
+  rule-keeps x o rs h = all-weaker (λ r. holds bd r x ≡ true) (Holds-on x) (λ r h b n. (asked-narrows lawful bd some r .kept b (n .0), asked-keeps lawful bd some r b (n .0) x o (n .1) h)) rs h
+
+  kept-so-far : (p : ℕ) (g : List (Call R)) (x : Layout) → On bd x → In bd x start → Keeps-all fault holds run bd g (from-places p) x → In bd x (after fault run g (from-places p) .box)
+  kept-so-far p g x o i kept =
+      let s = from-places p in
+      subst (In bd x) (after-box fault run g s) (history-holds (size bd) (narrow bd) (asked fault run bd) (λ b. Kept bd b × In bd x b) (steps fault run g s) [] start (k, i)
+      (all-weaker (λ e. keeps e x ≡ true) (λ e. (b : Box) → Kept bd b × In bd x b → Kept bd (narrow bd e b) × In bd x (narrow bd e b))
+      (λ e h b n. (entry-narrows bd some e .kept b (n .0), entry-keeps bd some e b x (n .0) o (n .1) (λ _. h))) _ (subst (All (λ e. keeps e x ≡ true)) (sym (entered-is fault run g s)) (kept .entries)))
+      tt
+      (rule-keeps x o _ (subst (All (λ r. holds bd r x ≡ true)) (sym (posted-is fault run g s)) (kept .rules))) .1)
+
   pub mixes : Mixes fault holds run bd start
   mixes = record {
     order = λ p q g h ae ar. mix-alone p g
         ∙ answer-alike (Kept bd) (Fewer bd some) (size bd) (ordered bd some) (narrow bd) (asked fault run bd) cuts runs (entry-firm bd some) _ _ _ _ start k ae ar
         ∙ sym (mix-alone q h);
-    never-lost = λ p g x o i kept.
-        let s = from-places p in
-        subst (In bd x) (after-box fault run g s) (history-holds (size bd) (narrow bd) (asked fault run bd) (λ b. Kept bd b × In bd x b) (steps fault run g s) [] start (k, i)
-        (all-weaker (λ e. keeps e x ≡ true) (λ e. (b : Box) → Kept bd b × In bd x b → Kept bd (narrow bd e b) × In bd x (narrow bd e b))
-        (λ e h b n. (entry-narrows bd some e .kept b (n .0), entry-keeps bd some e b x (n .0) o (n .1) (λ _. h))) _ (subst (All (λ e. keeps e x ≡ true)) (sym (entered-is fault run g s)) (kept .entries)))
-        tt
-        (all-weaker (λ r. holds bd r x ≡ true) (λ r. (b : Box) → Kept bd b × In bd x b → Kept bd (asked fault run bd r b) × In bd x (asked fault run bd r b))
-        (λ r h b n. (asked-narrows lawful bd some r .kept b (n .0), asked-keeps lawful bd some r b (n .0) x o (n .1) h)) _ (subst (All (λ r. holds bd r x ≡ true)) (sym (posted-is fault run g s)) (kept .rules))) .1);
+    never-lost = kept-so-far;
+    kept-to-the-end = λ p g x o i kept.
+        let rs = posted fault run g (from-places p) in
+        subst (In bd x) (sym (last-settle p g))
+        (settled-holds {E = Entry} (size bd) (narrow bd) (asked fault run bd) (λ b. Kept bd b × In bd x b) (map (asked fault run bd) rs)
+        (all-to-map (λ f. (b : Box) → Kept bd b × In bd x b → Kept bd (f b) × In bd x (f b)) (asked fault run bd) rs (rule-keeps x o rs (kept .rules)))
+        _ (mix-kept p g, kept-so-far p g x o i kept) .1);
     lone = λ p g x only.
         let s = from-places p in
         let e = mix-alone p g in

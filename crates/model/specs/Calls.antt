@@ -112,6 +112,8 @@ module _ {R : Type 0} (fault : Board → R → ℕ) (holds : Board → R → Lay
         → does fault run settle (after fault run g (draft bd p start)) .box ≡ does fault run settle (after fault run h (draft bd q start)) .box
     -- a layout that keeps all of them is never lost
     pub never-lost : (p : ℕ) (g : List (Call R)) → (x : Layout) → On bd x → In bd x start → Keeps-all bd g (draft bd p start) x → In bd x (after fault run g (draft bd p start) .box)
+    -- and not by a last settle
+    pub kept-to-the-end : (p : ℕ) (g : List (Call R)) → (x : Layout) → On bd x → In bd x start → Keeps-all bd g (draft bd p start) x → In bd x (does fault run settle (after fault run g (draft bd p start)) .box)
     -- where only one layout is left, it keeps all of them
     pub lone : (p : ℕ) (g : List (Call R)) → (x : Layout) → Only bd (does fault run settle (after fault run g (draft bd p start)) .box) x → Keeps-all bd g (draft bd p start) x
 

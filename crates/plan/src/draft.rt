@@ -14,6 +14,7 @@ ghost use Rattle.model.specs.Calls.{answer, does, draft as drafted, enter, post
 ghost use Rattle.board.specs.Numbers.{outcome};
 ghost use Rattle.board.specs.Model.{board, model};
 ghost use Rattle.plan.specs.States.{state, postedPlaces};
+ghost use Rattle.plan.specs.Trust.{Trusted};
 use crate::settled::Settled;
 use board::domains::Domains;
 use board::refusal::Refusal;
@@ -132,6 +133,7 @@ impl<'a, R: Rule> Draft<'a, R> {
         ensures lent { λ r. ⌜ name (r .places) ≡ name (self .entry .places) ⌝ }
         ensures places { λ r. ⌜ (now (r .places) ≡ now (self .entry .places)) × (r .count ≡ self .entry .count) ⌝ }
         ensures plan { λ r. ⌜ state (r .plan) (now (r .places)) (r .count) true ≡ does fault run settling (state (self .entry .plan) (now (self .entry .places)) (self .entry .count) false) ⌝ }
+        ensures trusted { λ r. ⌜ Trusted fault holds run (state (self .entry .plan) (now (self .entry .places)) (self .entry .count) false) (model (r .plan)) ⌝ }
         ensures mixes { λ _. ⌜ Mixes-stand fault holds run ⌝ }
     {
         let Draft {

@@ -1,5 +1,6 @@
 ghost use mathlib.Core.Path.{_≡_};
-ghost use mathlib.Core.Bool.{not};
+ghost use mathlib.Core.Bool.{true, false, not};
+ghost use denote.Ref.{name};
 ghost use mathlib.Core.List.{_∷_, []};
 ghost use lib.Dec.{leb};
 ghost use Rattle.std.specs.Vec.{made};
@@ -9,8 +10,12 @@ ghost use Rattle.board.specs.Numbers.{outcome};
 ghost use Rattle.board.specs.Model.{board, model};
 ghost use Rattle.text.specs.Lines.{listing as listingText};
 ghost use Rattle.text.specs.Printed.{Printed};
+ghost use Rattle.model.specs.Calls.{does, reopen as reopening};
+ghost use Rattle.plan.specs.States.{state};
+use crate::draft::Draft;
 use board::domains::Domains;
 use board::refusal::Refusal;
+use rule::Rule;
 use text::listing::listing;
 
 // A plan at rest. It can be read, and takes no entries.
@@ -66,5 +71,25 @@ impl<'a, R> Settled<'a, R> {
         ensures { λ r. ⌜ Printed (listingText (board (now (self .entry) .plan)) (model (now (self .entry) .plan))) r (now (out .entry)) (now (out .exit)) ⌝ }
     {
         listing(&self.plan, out)
+    }
+}
+
+impl<'a, R: Rule> Settled<'a, R> {
+    // Makes it a draft again, with the same box and table. Never refuses.
+    pub fn reopen(self) -> Draft<'a, R>
+        ensures lent { λ r. ⌜ name (r .places) ≡ name (self .entry .places) ⌝ }
+        ensures places { λ r. ⌜ (now (r .places) ≡ now (self .entry .places)) × (r .count ≡ self .entry .count) ⌝ }
+        ensures plan { λ r. ⌜ state (r .plan) (now (r .places)) (r .count) false ≡ does fault run reopening (state (self .entry .plan) (now (self .entry .places)) (self .entry .count) true) ⌝ }
+    {
+        let Settled {
+            plan,
+            places,
+            count,
+        } = self;
+        Draft {
+            plan,
+            places,
+            count,
+        }
     }
 }
