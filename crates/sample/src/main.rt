@@ -1,36 +1,20 @@
 // A small job from start to finish: a board is described, entries are made and rules posted, the plan is settled and listed.
 use board::refusal::Refusal;
+use kinds::AnySheetRule;
+use kinds::SheetRule;
 use plan::draft::Draft;
+use roots::roots::Roots;
+use sets::count::Count;
+use sets::row::Row;
 use sets::within::Within;
-use sets::within::WithinRule;
 use std::error::AnyError;
 use text::listing::LONGEST_LISTING;
 
 fn main(rt: LibcRuntime) -> Result<(), AnyError> {
-    let mut places = [Within { a: 0, b: 0 }; 8];
+    let mut places = [SheetRule::Row(Row { a: 0 }); 8];
     let mut draft = Draft::begin(&mut places);
-    // Three sensors, five slots; sets 0 and 1 hold sensors, set 2 holds slots.
-    tell(
-        &rt,
-        "new 3 5 3, set 2 holds slots",
-        draft.new(3, 5, 3, 0b100),
-    )?;
-    tell(&rt, "limit sensor 0 to 1 3", draft.limit(0, 0b01010))?;
-    tell(&rt, "limit sensor 1 to 2 4", draft.limit(1, 0b10100))?;
-    tell(&rt, "limit sensor 3 to 0", draft.limit(3, 0b00001))?;
-    tell(&rt, "claim 0 2 for set 0", draft.claim(0, 0b101))?;
-    tell(&rt, "bar 4 from set 2", draft.bar(2, 0b10000))?;
-    tell(&rt, "bar 5 from set 2", draft.bar(2, 0b100000))?;
-    tell(
-        &rt,
-        "post set 0 within set 1",
-        draft.post(Within { a: 0, b: 1 }),
-    )?;
-    tell(
-        &rt,
-        "post set 0 within set 2",
-        draft.post(Within { a: 0, b: 2 }),
-    )?;
+    describe(&rt, &mut draft)?;
+    enter(&rt, &mut draft)?;
     let settled = draft.settle();
     rt.println("settled")?;
     let mut out = [0u8; LONGEST_LISTING];
@@ -38,6 +22,57 @@ fn main(rt: LibcRuntime) -> Result<(), AnyError> {
         return Err("the output is too short".into());
     };
     print_text(&rt, &out, end)
+}
+
+// Four sensors and five slots. Sets 0 and 1 hold sensors: those on the fast bus, and those that are sampled together. Set 2 holds slots: the fast ones.
+fn describe(rt: &impl Print, draft: &mut Draft<'_, SheetRule>) -> Result<(), AnyError> {
+    tell(
+        rt,
+        "new 4 5 3, set 2 holds slots",
+        draft.new(4, 5, 3, 0b100),
+    )?;
+    tell(rt, "limit sensor 0 to 1 3", draft.limit(0, 0b01010))?;
+    tell(rt, "limit sensor 1 to 2 4", draft.limit(1, 0b10100))?;
+    tell(rt, "limit sensor 4 to 0", draft.limit(4, 0b00001))?;
+    tell(rt, "claim 0 2 for set 1", draft.claim(1, 0b0101))?;
+    tell(rt, "bar 0 4 from set 2", draft.bar(2, 0b10001))?;
+    tell(rt, "bar 5 from set 2", draft.bar(2, 0b100000))
+}
+
+fn enter(rt: &impl Print, draft: &mut Draft<'_, SheetRule>) -> Result<(), AnyError> {
+    tell(
+        rt,
+        "post set 1 within set 0",
+        draft.post(SheetRule::Within(Within { a: 1, b: 0 })),
+    )?;
+    tell(
+        rt,
+        "post set 1 within set 2",
+        draft.post(SheetRule::Within(Within { a: 1, b: 2 })),
+    )?;
+    tell(
+        rt,
+        "post roots 0 1 2 3, set 0, set 2",
+        draft.post(SheetRule::Roots(Roots {
+            g: 0b1111,
+            s: 0,
+            t: 2,
+        })),
+    )?;
+    tell(
+        rt,
+        "post count of set 1, 2 to 3",
+        draft.post(SheetRule::Count(Count {
+            a: 1,
+            least: 2,
+            most: 3,
+        })),
+    )?;
+    tell(
+        rt,
+        "post row of set 1",
+        draft.post(SheetRule::Row(Row { a: 1 })),
+    )
 }
 
 // An action and what was answered.
