@@ -1,0 +1,3 @@
+pub mod Surveys
+pub mod Judging
+pub mod Entering

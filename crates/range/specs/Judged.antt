@@ -28,7 +28,6 @@ pub record Held (cands : List ℕ) (sensors claimed : ℕ) (keep : List ℕ) (bo
 pub record Judged (cands : List ℕ) (sensors claimed lower upper left : ℕ) (keep : List ℕ) (bound near : ℕ) : Type 0 where
   pub inside : (i : ℕ) → has left i ≡ true → has sensors i ≡ true
   pub long : length keep ≡ 64
-  pub todo : (i : ℕ) → has left i ≡ true → getD keep i 0 ≡ getD cands i 0
   pub each : (i : ℕ) → has sensors i ≡ true → has left i ≡ false → Freed cands sensors claimed lower upper keep near i ⊎ Held cands sensors claimed keep bound i
   pub bound-from : (i : ℕ) → has bound i ≡ true → (z : ℕ) × Needed (candidate cands) sensors claimed i z
   pub near-from : (v : ℕ) → has near v ≡ true

@@ -1,4 +1,8 @@
+ghost use mathlib.Core.Path.{_≡_};
+ghost use mathlib.Core.Bool.{true, false};
 ghost use Prim.Native.Nat.{ℕ};
+ghost use lib.Bits.{bitAnd};
+ghost use Rattle.masks.specs.Masks.{has};
 ghost use Rattle.covering.specs.Covering.{candidate, Short};
 ghost use Rattle.range.specs.Judged.{Judged};
 ghost use Rattle.std.specs.Options.{Cases as BySome};
@@ -39,12 +43,18 @@ pub fn judge(cands: &[u64; 64], sensors: u64, claimed: u64, lower: u64, upper: u
                 bound = with(bound, i);
             }
             Role::Free => {
-                if contains(lower, i) {
-                    keep[i as usize] = own & upper;
-                }
+                keep[i as usize] = left_free(own, lower, upper, i);
                 near |= own & upper;
             }
         }
     }
     Some(Verdict { keep, bound, near })
+}
+
+/// The slots of a sensor that some covering leaves out: those of `upper` if the sensor is in `lower`.
+fn left_free(own: u64, lower: u64, upper: u64, i: u8) -> u64
+    ensures inner { λ r. ⌜ (has lower i ≡ true → r ≡ bitAnd own upper) ⌝ }
+    ensures outer { λ r. ⌜ (has lower i ≡ false → r ≡ own) ⌝ }
+{
+    if contains(lower, i) { own & upper } else { own }
 }
