@@ -14,16 +14,20 @@ use Rattle.masks.proofs.Masks.{has-or, has-zero}
 use Rattle.model.specs.Box.{offers, taken}
 use Rattle.model.specs.Entries.{cut}
 
-use Rattle.covering.specs.Covering.{Avoidable, Needed, candidate}
+use Rattle.model.proofs.Witness.{covers}
+use Rattle.covering.specs.Covering.{Avoidable, Covering, Needed, candidate}
 use Rattle.covering.proofs.Singles.{drop-only, or-here, or-keeps, or-only}
 use Rattle.range.specs.Judged.{Freed, Held, Judged}
 use Rattle.range.specs.Survey.{common}
 use Rattle.range.proofs.Surveys.{left-out}
 
-pub judged-start : (cands : List ℕ) (sensors claimed lower upper : ℕ) → length cands ≡ 64 → Judged cands sensors claimed lower upper sensors cands 0 0
-judged-start cands sensors claimed lower upper l = record {
+pub judged-start : (cands : List ℕ) (sensors claimed lower upper : ℕ) → length cands ≡ 64 → (on : ℕ → ℕ) → Covering (candidate cands) sensors claimed on
+    → Judged cands sensors claimed lower upper sensors cands 0 0
+judged-start cands sensors claimed lower upper l on covers = record {
   inside = λ i e. e;
   long = l;
+  on = on;
+  covers = covers;
   each = λ i e f. absurd (both-ways _ f e);
   bound-from = λ i e. absurd (both-ways _ (has-zero i) e);
   near-from = λ v e. absurd (both-ways _ (has-zero v) e);
@@ -68,6 +72,8 @@ module _ {cands : List ℕ} {sensors claimed lower upper left : ℕ} {keep : Lis
       record {
         inside = λ k q. h .inside k (drop-only left i k q);
         long = length-set keep i m ∙ h .long;
+        on = h .on;
+        covers = h .covers;
         each = λ k s f. elim (cases-eq k i) [
           | inl z ↦ inr (subst (λ (x : ℕ). Held cands sensors claimed (set keep i m) (bitOr bound (2 ^ i)) x) (sym z) mine)
           | inr ne ↦ elim (h .each k s (left-out left i k ne f)) [ inl q ↦ inl (freed-same m k ne q) | inr q ↦ inr (held-more m k ne q) ]
@@ -91,6 +97,8 @@ module _ {cands : List ℕ} {sensors claimed lower upper left : ℕ} {keep : Lis
       record {
         inside = λ k q. h .inside k (drop-only left i k q);
         long = length-set keep i m ∙ h .long;
+        on = h .on;
+        covers = h .covers;
         each = λ k s f. elim (cases-eq k i) [
           | inl z ↦ inl (subst (λ (x : ℕ). Freed cands sensors claimed lower upper (set keep i m) (bitOr near (common cands upper i)) x) (sym z) mine)
           | inr ne ↦ elim (h .each k s (left-out left i k ne f)) [ inl t ↦ inl (freed-still m (common cands upper i) k ne t) | inr t ↦ inr (held-still m k ne t) ]

@@ -8,7 +8,7 @@ use Prim.Native.Nat.{ℕ}
 use lib.Bits.{bitAnd}
 use lib.ListN.{getD, length}
 use Rattle.masks.specs.Masks.{has}
-use Rattle.covering.specs.Covering.{candidate, Avoidable, Needed}
+use Rattle.covering.specs.Covering.{candidate, Covering, Avoidable, Needed}
 use Rattle.range.specs.Survey.{common}
 
 -- a sensor that some covering leaves out
@@ -28,6 +28,8 @@ pub record Held (cands : List ℕ) (sensors claimed : ℕ) (keep : List ℕ) (bo
 pub record Judged (cands : List ℕ) (sensors claimed lower upper left : ℕ) (keep : List ℕ) (bound near : ℕ) : Type 0 where
   pub inside : (i : ℕ) → has left i ≡ true → has sensors i ≡ true
   pub long : length keep ≡ 64
+  pub on : ℕ → ℕ
+  pub covers : Covering (candidate cands) sensors claimed on
   pub each : (i : ℕ) → has sensors i ≡ true → has left i ≡ false → Freed cands sensors claimed lower upper keep near i ⊎ Held cands sensors claimed keep bound i
   pub bound-from : (i : ℕ) → has bound i ≡ true → (z : ℕ) × Needed (candidate cands) sensors claimed i z
   pub near-from : (v : ℕ) → has near v ≡ true

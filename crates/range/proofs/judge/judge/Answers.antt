@@ -4,7 +4,7 @@ use Rattle.range.proofs.Surveys.{fewer-left}
 use Rattle.range.proofs.judge.judge.Needs as need
 
 pub loop-i-holds : need.loop-i-holds
-loop-i-holds c = judged-start _ _ _ _ _ (c .told-cands)
+loop-i-holds c = judged-start _ _ _ _ _ (c .told-cands) _ (c .in-Ok .ensures tt .covers)
 
 pub loop-i-less-in-Bound : need.loop-i-less-in-Bound
 loop-i-less-in-Bound c = simp (c .in-Some .ensures tt .others) (fewer-left (c .loop-i .left) (c .in-Some .i) (c .in-Some .ensures tt .member))
