@@ -14,7 +14,6 @@ use Rattle.model.specs.Board.{Board}
 use Rattle.model.specs.Box.{Box, In, Inside, Kept, Live, Narrower, cand, hi, lo}
 use Rattle.model.specs.Entries.{Entry, bar, claim, cut, keeps, limit, narrow, placed}
 use Rattle.model.specs.Layout.{Layout, On, setOf, slotOf}
-
 use Rattle.model.proofs.Boxes.{dead-cand, live-true}
 use Rattle.model.proofs.Cuts.{bar-at, claim-at, limit-at}
 use Rattle.model.proofs.Entries.{entry-keeps, entry-narrows}

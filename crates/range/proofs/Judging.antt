@@ -13,7 +13,6 @@ use Rattle.masks.specs.Masks.{has, without}
 use Rattle.masks.proofs.Masks.{has-or, has-zero}
 use Rattle.model.specs.Box.{offers, taken}
 use Rattle.model.specs.Entries.{cut}
-
 use Rattle.model.proofs.Witness.{covers}
 use Rattle.covering.specs.Covering.{Avoidable, Covering, Needed, candidate}
 use Rattle.covering.proofs.Singles.{drop-only, or-here, or-keeps, or-only}

@@ -4,3 +4,5 @@ pub mod Entering
 pub mod Fitting
 pub mod Images
 pub mod Supports
+pub mod Witnesses
+pub mod RangeRuns

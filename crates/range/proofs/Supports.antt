@@ -14,7 +14,6 @@ use Rattle.masks.proofs.Subsets.{nonzero, within-all}
 use Rattle.model.specs.Board.{Board}
 use Rattle.model.specs.Box.{Box, In, cand, hi, lo}
 use Rattle.model.specs.Layout.{Layout, On, setOf, slotOf}
-
 use Rattle.board.proofs.Fills.{none}
 use Rattle.covering.specs.Covering.{Needed, Short, candidate}
 use Rattle.covering.proofs.Shorts.{short-shut, short-used}
@@ -70,8 +69,7 @@ module _ (bd : Board) (g s t : ℕ) (fit : Fit bd g s t) (x : Box) (cands : List
 
     needed-used : (i z : ℕ) → Needed (candidate cands) able (lo x t) i z → (has z (slotOf y i) ≡ true) × (has (setOf y s) i ≡ true)
     needed-used i z need =
-        let shut : ((v : ℕ) → has z v ≡ true → Sits v i → ⊥) → ⊥ = λ none. short-used able i (need .short) Sits sits-one (λ v e. holder v (need .short .inside v e)) none in
-        (
+        let shut : ((v : ℕ) → has z v ≡ true → Sits v i → ⊥) → ⊥ = λ none. short-used able i (need .short) Sits sits-one (λ v e. holder v (need .short .inside v e)) none in (
           elim (cases-bool (has z (slotOf y i))) [
             | inl a ↦ a
             | inr f ↦ absurd (shut (λ v e q. both-ways _ f (subst (λ (u : ℕ). has z u ≡ true) (sym (q .0)) e)))

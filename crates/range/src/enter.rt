@@ -2,9 +2,9 @@ ghost use mathlib.Core.Path.{_≡_};
 ghost use Rattle.model.specs.Settled.{Progress};
 ghost use Rattle.board.specs.Model.{board, model};
 ghost use Rattle.range.specs.Entered.{Limited, Confined, Entered};
+use crate::judge::Verdict;
 use board::domains::Domains;
 use covering::bits::split;
-use crate::judge::Verdict;
 use masks::take_out;
 
 /// Limits each of the sensors to its slots.
@@ -33,7 +33,15 @@ pub fn confine(d: &mut Domains, set: u8, mask: u64) -> bool
 }
 
 /// Enters what the coverings leave, and that set s lies within the sensors, and that t holds the sure slots.
-pub fn enter(d: &mut Domains, s: u8, t: u8, sensors: u64, verdict: &Verdict, wide: u64, sure: u64) -> bool
+pub fn enter(
+    d: &mut Domains,
+    s: u8,
+    t: u8,
+    sensors: u64,
+    verdict: &Verdict,
+    wide: u64,
+    sure: u64,
+) -> bool
     ensures board { λ _. ⌜ board (now (d .exit)) ≡ board (now (d .entry)) ⌝ }
     ensures model { λ _. ⌜ Entered (board (now (d .entry))) s t sensors (now (verdict .entry) .keep) (now (verdict .entry) .bound) wide sure (model (now (d .entry))) (model (now (d .exit))) ⌝ }
     ensures moved { λ r. ⌜ Progress (board (now (d .entry))) r (model (now (d .entry))) (model (now (d .exit))) ⌝ }

@@ -23,7 +23,13 @@ pub struct Verdict {
 
 /// Looks at each of the sensors, if they cover the claimed slots. A sensor that every covering uses keeps the slots that coverings give it;
 /// of the others those of `lower` keep the slots of `upper`.
-pub fn judge(cands: &[u64; 64], sensors: u64, claimed: u64, lower: u64, upper: u64) -> Option<Verdict>
+pub fn judge(
+    cands: &[u64; 64],
+    sensors: u64,
+    claimed: u64,
+    lower: u64,
+    upper: u64,
+) -> Option<Verdict>
     ensures { λ r. ⌜ BySome r ((z : ℕ) × Short (candidate (now (cands .entry))) sensors claimed z) (λ v. Judged (now (cands .entry)) sensors claimed lower upper 0 (v .keep) (v .bound) (v .near)) ⌝ }
 {
     let notes = match cover(cands, sensors, claimed) {

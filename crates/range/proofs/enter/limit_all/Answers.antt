@@ -26,12 +26,11 @@ loop-i-again c =
     let inv = c .loop-i .inv in
     let e = c .limit-moved .ensures in
     let n = c .in-Some .ensures tt in
-    let same : board is ≡ board d = e .board ∙ inv .0 in
-    (
+    let same : board is ≡ board d = e .board ∙ inv .0 in (
       same,
       simp (n .others) (limited-more (board d) (some d) (c .args .sensors) (c .args .keep .now) (c .loop-i .left) (model d) (model was) (model is) (c .in-Some .i)
-      (n .member) (is-kept d) (kept-on was (board d) (inv .0)) (kept-on is (board d) same) (inv .1)
-      (e .model ∙ ap (λ (b : Board). narrow b (limit (c .in-Some .i) (getD (c .args .keep .now) (c .in-Some .i) 0)) (model was)) (inv .0))),
+          (n .member) (is-kept d) (kept-on was (board d) (inv .0)) (kept-on is (board d) same) (inv .1)
+          (e .model ∙ ap (λ (b : Board). narrow b (limit (c .in-Some .i) (getD (c .args .keep .now) (c .in-Some .i) 0)) (model was)) (inv .0))),
       progress-join (board d) (some d) (c .loop-i .moved) (c .limit-moved .result) (model d) (model was) (model is) (inv .2)
-      (subst (λ (b : Board). Progress b (c .limit-moved .result) (model was) (model is)) (inv .0) (e .moved)),
+          (subst (λ (b : Board). Progress b (c .limit-moved .result) (model was) (model is)) (inv .0) (e .moved)),
     )
