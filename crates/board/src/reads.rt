@@ -1,5 +1,7 @@
 ghost use mathlib.Core.Path.{_≡_};
 ghost use mathlib.Core.Bool.{not};
+ghost use Prim.Native.Nat.{ℕ};
+ghost use lib.ListN.{getD};
 ghost use Rattle.masks.specs.Masks.{has};
 ghost use Rattle.model.specs.Board.{room as roomOf};
 ghost use Rattle.model.specs.Box.{cand, lo as lowOf, hi as highOf, live};
@@ -53,6 +55,13 @@ impl Domains {
     {
         let i = sensor as usize;
         if i < MOST_SENSORS { self.cands[i] } else { 0 }
+    }
+
+    // The candidates of all sensors; none beyond the last.
+    pub fn all_candidates(&self) -> [u64; MOST_SENSORS]
+        ensures { λ r. ⌜ ((i : ℕ) → getD r i 0 ≡ cand (model (now (self .entry))) i) ⌝ }
+    {
+        self.cands
     }
 
     // The lower bound of a set; empty for a number that is no set.

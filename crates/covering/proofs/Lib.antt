@@ -1,4 +1,4 @@
-mod Singles
+pub mod Singles
 pub mod Shorts
 mod Flips
 mod Hunts

@@ -1,4 +1,4 @@
-mod bits;
+pub mod bits;
 pub mod cover;
 mod flip;
 pub mod notes;

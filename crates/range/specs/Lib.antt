@@ -1,0 +1,4 @@
+pub mod Ranges
+pub mod Survey
+pub mod Judged
+pub mod Entered

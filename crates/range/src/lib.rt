@@ -1,0 +1,4 @@
+mod enter;
+mod judge;
+pub mod range;
+mod survey;

@@ -1,0 +1,76 @@
+ghost use mathlib.Core.Path.{_≡_};
+ghost use Rattle.model.specs.Refusals.{refusal};
+ghost use Rattle.model.specs.Settled.{Progress};
+ghost use Rattle.model.specs.Tight.{tight};
+ghost use Rattle.board.specs.Model.{board, model};
+ghost use Rattle.range.specs.Ranges.{range-causes, ranged, range-fault, range-holds, range-run};
+use crate::enter::enter;
+use crate::judge::judge;
+use crate::survey::able;
+use crate::survey::sure;
+use board::domains::Domains;
+use board::refusal::Refusal;
+use masks::is_below;
+use masks::is_within;
+use rule::Rule;
+
+// Set s lies within the sensors of g, and set t is exactly the set of the slots of the sensors in s.
+#[derive(Clone, Copy)]
+pub struct Range {
+    pub g: u64,
+    pub s: u8,
+    pub t: u8,
+}
+
+pub impl Rule for Range as RangeRule {
+    ghost fault = { range-fault };
+
+    ghost holds = { range-holds };
+
+    // the tight box: a choice remains exactly where some support uses it
+    ghost run = { range-run };
+
+    fn fit(&self, d: &Domains) -> Result<(), Refusal> {
+        if self.s >= d.sets() || self.t >= d.sets() {
+            return Err(Refusal::Set);
+        }
+        if !is_below(self.g, d.sensors()) {
+            return Err(Refusal::Mask);
+        }
+        if d.of_slots(self.s) || !d.of_slots(self.t) {
+            return Err(Refusal::Kind);
+        }
+        Ok(())
+    }
+
+    fn narrow(&self, d: &mut Domains) -> bool {
+        match self.fit(d) {
+            Ok(()) => squeeze(d, self.g, self.s, self.t),
+            Err(_) => false,
+        }
+    }
+}
+
+// The tight box: only where the sensors of g that may be in s and have a candidate in hi t are enough for lo s and lo t.
+fn squeeze(d: &mut Domains, g: u64, s: u8, t: u8) -> bool
+    requires { ⌜ refusal (range-causes (board (now d)) g s t) ≡ 0 ⌝ }
+    ensures board { λ _. ⌜ board (now (d .exit)) ≡ board (now (d .entry)) ⌝ }
+    ensures model { λ _. ⌜ model (now (d .exit)) ≡ tight (board (now (d .entry))) (ranged (board (now (d .entry))) g s t) (model (now (d .entry))) ⌝ }
+    ensures moved { λ r. ⌜ Progress (board (now (d .entry))) r (model (now (d .entry))) (model (now (d .exit))) ⌝ }
+{
+    let cands = d.all_candidates();
+    let lower = d.lower(s);
+    let claimed = d.lower(t);
+    let upper = d.upper(t);
+    let sensors = able(&cands, d.upper(s) & g, upper);
+    if !is_within(lower, sensors) {
+        return d.limit(0, 0);
+    }
+    match judge(&cands, sensors, claimed, lower, upper) {
+        None => d.limit(0, 0),
+        Some(verdict) => {
+            let single = sure(&cands, lower, upper);
+            enter(d, s, t, sensors, &verdict, claimed | verdict.near, single)
+        }
+    }
+}
