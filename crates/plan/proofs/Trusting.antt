@@ -2,19 +2,22 @@
 -- every layout of the board lies in the box of a new plan
 use mathlib.Core.Path.{_≡_, sym, ap, _∙_, subst}
 use mathlib.Core.Bool.{Bool, true}
-use mathlib.Core.List.{List}
+use mathlib.Core.List.{List, map}
 use Prim.Native.Nat.{ℕ, _-_, _^_, _<_}
+use Rattle.std.specs.shelf.Lists.{All}
 use Rattle.masks.specs.Masks.{has, within}
 use Rattle.masks.proofs.Masks.{has-full, within-from}
 use Rattle.model.specs.Board.{Board, room}
 use Rattle.model.specs.Box.{Box, Choice, In, Kept, cand, choice, dead, full, hi, live, lo, uses}
-use Rattle.model.specs.Calls.{Call, Mixes, State, after, does, settle}
-use Rattle.model.specs.Laws.{Lawful, Only}
+use Rattle.model.specs.Calls.{Call, Mem, Mixes, State, after, does, posted, settle}
+use Rattle.model.specs.Laws.{Lawful, Only, asked, fits}
 use Rattle.model.specs.Layout.{Layout, On, setOf, slotOf}
+use Rattle.model.proofs.Asked.{all-asked, asked-fits}
 use Rattle.model.proofs.Boxes.{mem-lay, space}
 use Rattle.model.proofs.Full.{full-kept}
-use Rattle.model.proofs.Lists.{tab-at}
-use Rattle.model.proofs.Mixes.{mix-kept, mix-settled-kept, mixes}
+use Rattle.model.proofs.Lists.{all-mem, all-of-map, tab-at}
+use Rattle.model.proofs.Mixes.{mix-kept, mix-settled-kept, mixes, posted-fit, rules-are}
+use Rattle.model.proofs.Tight.{settling}
 use Rattle.board.proofs.Shapes.{some}
 use Rattle.text.specs.Lines.{listing}
 use Rattle.plan.specs.Trust.{Leads, Reads-alike, Trusted, begun}
@@ -64,3 +67,21 @@ module _ {R : Type 0} {fault : Board → R → ℕ} {holds : Board → R → Lay
         (mixed .kept-to-the-end (s .places) h x o (full-in (s .board) x o) k) c u);
     lone = λ h l x only. mixed .lone (s .places) h x (subst (λ z. Only (s .board) z x) (settle-from h l) only);
   }
+
+  -- ---- rules that were accepted
+
+  rules-of : (h : List (Call R)) → Leads fault holds run h s → s .rules ≡ posted fault run h start
+  rules-of h l = ap (λ z. z .rules) (sym l) ∙ rules-are fault run h start
+
+  kept-start : Kept (s .board) (s .box) → All (λ r. asked fault run (s .board) r t ≡ t) (s .rules)
+  kept-start k =
+      let w = settling (s .board) some .made (map (asked fault run (s .board)) (s .rules)) (all-asked lawful (s .board) some (s .rules)) (s .box) k in
+      subst (λ z. All (λ r. asked fault run (s .board) r z ≡ z) (s .rules)) (sym e) (all-of-map (λ f. f _ ≡ _) (asked fault run (s .board)) (s .rules) (w .still))
+
+  -- each fits, and its run leaves the settled box
+  pub at-rest : (h : List (Call R)) → Leads fault holds run h s → (r : R) → Mem r (posted fault run h start) → (fits fault (s .board) r ≡ true) × (run (s .board) r t ≡ t)
+  at-rest h l r m =
+      let k : Kept (s .board) (s .box) = subst (λ z. Kept (s .board) (z .box)) l (mix-kept lawful (s .board) some (full (s .board)) (full-kept (s .board) slots) (s .places) h) in
+      let f = all-mem (λ r. fits fault (s .board) r ≡ true) (posted fault run h start) (posted-fit fault run h start) r m in
+      let a = all-mem (λ r. asked fault run (s .board) r t ≡ t) (posted fault run h start) (subst (All (λ r. asked fault run (s .board) r t ≡ t)) (rules-of h l) (kept-start k)) r m in
+      (f, sym (asked-fits fault run (s .board) r t f) ∙ a)
