@@ -1,2 +1,3 @@
 pub mod draft;
 pub mod settled;
+pub mod mix;
