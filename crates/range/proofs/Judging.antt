@@ -12,7 +12,6 @@ use Rattle.std.proofs.shelf.Tests.{both-ways, cases-eq, or-cases, or-left, or-r
 use Rattle.masks.specs.Masks.{has, without}
 use Rattle.masks.proofs.Masks.{has-or, has-zero}
 use Rattle.model.specs.Box.{offers, taken}
-
 use Rattle.model.proofs.Witness.{covers}
 use Rattle.covering.specs.Covering.{Covering, Needed, candidate}
 use Rattle.covering.proofs.Singles.{drop-only, or-here, or-keeps, or-only}

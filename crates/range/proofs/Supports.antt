@@ -14,7 +14,6 @@ use Rattle.masks.proofs.Subsets.{nonzero, within-all}
 use Rattle.model.specs.Board.{Board}
 use Rattle.model.specs.Box.{Box, In, cand, hi, lo}
 use Rattle.model.specs.Layout.{Layout, On, setOf, slotOf}
-
 use Rattle.covering.specs.Covering.{Needed, Short, candidate}
 use Rattle.covering.proofs.Shorts.{short-shut, short-used}
 use Rattle.range.specs.Entered.{Obedient}

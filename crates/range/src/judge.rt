@@ -25,12 +25,21 @@ pub fn look(notes: &Notes, own: u64, lower: u64, upper: u64, i: u8) -> Seen
     ensures { λ r. ⌜ ((can : ℕ → ℕ → Bool) (sensors claimed : ℕ) → NotesOf can sensors claimed (now (notes .entry)) → Looked can sensors claimed lower upper own (r .slots) i (r .bound)) ⌝ }
 {
     match spare(notes, i) {
-        Role::Bound(group) => Seen { slots: own & group, bound: true },
+        Role::Bound(group) => Seen {
+            slots: own & group,
+            bound: true,
+        },
         Role::Free => {
             if contains(lower, i) {
-                Seen { slots: own & upper, bound: false }
+                Seen {
+                    slots: own & upper,
+                    bound: false,
+                }
             } else {
-                Seen { slots: own, bound: false }
+                Seen {
+                    slots: own,
+                    bound: false,
+                }
             }
         }
     }
@@ -45,7 +54,13 @@ pub struct Verdict {
 }
 
 /// Looks at each of the sensors, if they cover the claimed slots.
-pub fn judge(cands: &[u64; 64], sensors: u64, claimed: u64, lower: u64, upper: u64) -> Option<Verdict>
+pub fn judge(
+    cands: &[u64; 64],
+    sensors: u64,
+    claimed: u64,
+    lower: u64,
+    upper: u64,
+) -> Option<Verdict>
     ensures { λ r. ⌜ BySome r ((z : ℕ) × Short (candidate (now (cands .entry))) sensors claimed z) (λ v. Judged (now (cands .entry)) sensors claimed lower upper 0 (v .keep) (v .bound) (v .near)) ⌝ }
 {
     let notes = match cover(cands, sensors, claimed) {
