@@ -6,3 +6,4 @@ pub mod Images
 pub mod Supports
 pub mod Witnesses
 pub mod RangeRuns
+pub mod Asking

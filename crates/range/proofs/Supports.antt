@@ -14,11 +14,10 @@ use Rattle.masks.proofs.Subsets.{nonzero, within-all}
 use Rattle.model.specs.Board.{Board}
 use Rattle.model.specs.Box.{Box, In, cand, hi, lo}
 use Rattle.model.specs.Layout.{Layout, On, setOf, slotOf}
-use Rattle.board.proofs.Fills.{none}
 use Rattle.covering.specs.Covering.{Needed, Short, candidate}
 use Rattle.covering.proofs.Shorts.{short-shut, short-used}
 use Rattle.range.specs.Entered.{Obedient}
-use Rattle.range.specs.Judged.{Judged}
+use Rattle.range.specs.Judged.{Judged, Loose, Tied}
 use Rattle.range.specs.Survey.{Able, Sure, common}
 use Rattle.range.proofs.Fitting.{Fit}
 use Rattle.range.proofs.Images.{Ranged}
@@ -80,16 +79,25 @@ module _ (bd : Board) (g s t : ℕ) (fit : Fit bd g s t) (x : Box) (cands : List
           ],
         )
 
+    -- the slot of a sensor is among those that it keeps
+
+    pub loose-keeps : (i slots : ℕ) → i < bd .sensors → Loose (candidate cands) able (lo x t) (lo x s) (hi x t) (getD cands i 0) slots i → has slots (slotOf y i) ≡ true
+    loose-keeps i slots h f = elim (cases-bool (has (lo x s) i)) [
+      | inl a ↦ ap (λ (m : ℕ). has m (slotOf y i)) (f .inner a) ∙ slot-common i (lo-s i a)
+      | inr a ↦ ap (λ (m : ℕ). has m (slotOf y i)) (f .outer a) ∙ slot-cand i h
+    ]
+
+    pub tied-keeps : (i slots : ℕ) → i < bd .sensors → Tied (candidate cands) able (lo x t) (getD cands i 0) slots i → has slots (slotOf y i) ≡ true
+    tied-keeps i slots h f =
+        ap (λ (m : ℕ). has m (slotOf y i)) (f .cut) ∙ has-and (getD cands i 0) (f .group) (slotOf y i)
+        ∙ and-from _ _ (slot-cand i h) (needed-used i (f .group) (f .needed) .0)
+
     module _ (keep : List ℕ) (bound near sure : ℕ) (judged : Judged cands able (lo x t) (lo x s) (hi x t) 0 keep bound near)
         (single : Sure cands (lo x s) (hi x t) 0 sure) where
       keeps-slot : (i : ℕ) → has able i ≡ true → has (getD keep i 0) (slotOf y i) ≡ true
       keeps-slot i e = elim (judged .each i e (has-zero i)) [
-        | inl f ↦ elim (cases-bool (has (lo x s) i)) [
-          | inl a ↦ ap (λ (m : ℕ). has m (slotOf y i)) (f .inner a) ∙ slot-common i (lo-s i a)
-          | inr a ↦ ap (λ (m : ℕ). has m (slotOf y i)) (f .outer a) ∙ slot-cand i (able-low i e)
-        ]
-        | inr h ↦ ap (λ (m : ℕ). has m (slotOf y i)) (h .cut) ∙ has-and (getD cands i 0) (h .group) (slotOf y i)
-            ∙ and-from _ _ (slot-cand i (able-low i e)) (needed-used i (h .group) (h .needed) .0)
+        | inl f ↦ loose-keeps i (getD keep i 0) (able-low i e) (f .loose)
+        | inr f ↦ tied-keeps i (getD keep i 0) (able-low i e) (f .tied)
       ]
 
       t-wide : (v : ℕ) → has (setOf y t) v ≡ true → has (bitOr (lo x t) near) v ≡ true
@@ -98,7 +106,7 @@ module _ (bd : Board) (g s t : ℕ) (fit : Fit bd g s t) (x : Box) (cands : List
           let i = w .0 in
           has-or (lo x t) near v ∙ elim (judged .each i (s-able i (w .2)) (has-zero i)) [
             | inl f ↦ or-right _ _ (f .offers v (subst (λ (u : ℕ). has (common cands (hi x t) i) u ≡ true) (w .3) (slot-common i (w .2))))
-            | inr h ↦ or-left _ _ (h .needed .short .inside v (subst (λ (u : ℕ). has (h .group) u ≡ true) (w .3) (needed-used i (h .group) (h .needed) .0)))
+            | inr h ↦ or-left _ _ (h .tied .needed .short .inside v (subst (λ (u : ℕ). has (h .tied .group) u ≡ true) (w .3) (needed-used i (h .tied .group) (h .tied .needed) .0)))
           ]
 
       t-sure : (v : ℕ) → has sure v ≡ true → has (setOf y t) v ≡ true

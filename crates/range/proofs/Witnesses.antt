@@ -1,32 +1,35 @@
 -- Supports of Range made from coverings. Assumes nothing.
 -- ---- the slot that a covering gives sensor k, else d; p says which slots below n are covered
 use mathlib.Core.Path.{_≡_, refl, sym, ap, _∙_, subst}
-use mathlib.Core.Bool.{Bool, true, false, _&&_, cond}
+use mathlib.Core.Bool.{Bool, true, false, not, _&&_, cond}
 use mathlib.Core.List.{List, []}
 use mathlib.Core.Logic.{inl, inr}
 use Prim.Native.Nat.{ℕ, zero, suc, _^_, _<_}
 use native.Mathlib.Omega.{arith}
 use lib.Dec.{eqb}
 use lib.ListN.{getD}
-use lib.Bits.{bitAnd}
-use Rattle.std.proofs.shelf.Tests.{both-ways, eqb-true, lt-ltb, eq-eqb, and-parts, cases-eq, and-from, not-from-false, cond-both}
-use Rattle.masks.specs.Masks.{has}
+use lib.Bits.{bitAnd, and-le-l}
+use Rattle.std.proofs.shelf.Tests.{both-ways, not-true, eqb-true, eqb-false, lt-ltb, eq-eqb, ne-eqb, and-parts, cases-eq, cases-bool, and-from, not-from-false, cond-true, cond-false, cond-both}
+use Rattle.masks.specs.Masks.{has, within, without}
+use Rattle.masks.proofs.Counts.{first, first-has}
 use Rattle.masks.proofs.Masks.{has-and, has-below, within-has}
-use Rattle.masks.proofs.Subsets.{within-all}
+use Rattle.masks.proofs.Subsets.{nonzero, within-all}
 use Rattle.model.specs.Board.{Board, room}
 use Rattle.model.specs.Box.{Box, Choice, Live, cand, hi, lo, omitted, slotted, tab, taken, uses}
 use Rattle.model.specs.Layout.{Layout, layout, setOf, slotOf}
 use Rattle.model.specs.Tight.{Supported}
 use Rattle.model.proofs.Boxes.{lo-below, made}
 use Rattle.model.proofs.Lists.{tab-at}
-use Rattle.model.proofs.Witness.{Fills, Picks, put, put-fills, put-other, put-same, set-made, slot-made, support}
+use Rattle.model.proofs.Witness.{Fills, Picks, hi-fills, lo-fills, put, put-fills, put-other, put-picks, put-same, set-made, slot-made, support}
 use Rattle.board.proofs.Shapes.{some}
-use Rattle.covering.specs.Covering.{Covering, candidate}
+use Rattle.covering.specs.Covering.{Avoidable, Covering, candidate}
+use Rattle.covering.proofs.Singles.{drop-apart, drop-gone, drop-keeps, drop-only}
+use Rattle.range.specs.Judged.{Loose, Tied}
 use Rattle.range.specs.Ranges.{ranged, slots-of-all}
-use Rattle.range.specs.Survey.{Able}
+use Rattle.range.specs.Survey.{Able, common}
 use Rattle.range.proofs.Fitting.{Fit, t-room, two}
-use Rattle.range.proofs.Images.{Ranged, image-into, image-onto, ranged-from}
-use Rattle.range.proofs.Supports.{able-low}
+use Rattle.range.proofs.Images.{Ranged, image-into, image-onto, mask-in, mask-of, maskOf, ranged-from}
+use Rattle.range.proofs.Supports.{able-low, lower-able}
 
 pub given : (ℕ → Bool) → (ℕ → ℕ) → ℕ → ℕ → ℕ → ℕ
 given p on k d zero = d
@@ -179,3 +182,214 @@ module _ (bd : Board) (some : 0 < bd .sensors) (g s t : ℕ) (fit : Fit bd g s t
 
     pub by-no-rest : (j v : ℕ) → j < bd .sets → v < room bd j → (j ≡ s → ⊥) → (j ≡ t → ⊥) → has (rest j) v ≡ false → Supported bd (ranged bd g s t) x (omitted j v)
     by-no-rest j v h r ns nt q = by-omitted j v h r (ap (λ (m : ℕ). has m v) (other-is j h ns nt) ∙ q)
+
+  -- ---- a slot for each sensor: in hi T for those that may be in S
+
+  plain : ℕ → ℕ
+  plain i = cond (has able i) (first (bd .slots) (common cands (hi x t) i)) (first (bd .slots) (cand x i))
+
+  common-low : (i : ℕ) → i < bd .sensors → common cands (hi x t) i < 2 ^ bd .slots
+  common-low i h = omega (arith, and-le-l (getD cands i 0) (hi x t), same i, l .cands-on i h)
+
+  common-first : (i : ℕ) → has able i ≡ true → has (common cands (hi x t) i) (first (bd .slots) (common cands (hi x t) i)) ≡ true
+  common-first i e = first-has (bd .slots) (common cands (hi x t) i) (common-low i (able-on i e)) (far .only i e .1)
+
+  common-cand : (i v : ℕ) → has (common cands (hi x t) i) v ≡ true → (has (cand x i) v ≡ true) × (has (hi x t) v ≡ true)
+  common-cand i v e =
+      let w = and-parts _ _ (sym (has-and (getD cands i 0) (hi x t) v) ∙ e) in
+      (ap (λ (m : ℕ). has m v) (sym (same i)) ∙ w .0, w .1)
+
+  plain-able : (i : ℕ) → has able i ≡ true → has (common cands (hi x t) i) (plain i) ≡ true
+  unfolding plain
+  plain-able i e = ap (has (common cands (hi x t) i)) (cond-true (has able i) _ _ e) ∙ common-first i e
+
+  plain-inner : (i : ℕ) → has able i ≡ true → has (hi x t) (plain i) ≡ true
+  plain-inner i e = common-cand i (plain i) (plain-able i e) .1
+
+  plain-picks : Picks bd some x plain
+  unfolding plain
+  plain-picks = record {
+    pick = λ i h. elim (cases-bool (has able i)) [
+      | inl e ↦ common-cand i (plain i) (plain-able i e) .0
+      | inr e ↦ ap (has (cand x i)) (cond-false (has able i) _ _ e) ∙ first-has (bd .slots) (cand x i) (l .cands-on i h) (l .some i h)
+    ];
+  }
+
+  lows : Fills bd some x (lo x)
+  lows = lo-fills bd some x l
+
+  module _ (lower-able : within (lo x s) able ≡ true) where
+    lower-in : (i : ℕ) → has (lo x s) i ≡ true → has able i ≡ true
+    lower-in = within-has (lo x s) able lower-able
+
+    module _ (on : ℕ → ℕ) (covers : Covering (candidate cands) able (lo x t) on) where
+      -- S is all that it may be
+      apt-all : Apt on plain able
+      apt-all = record { covers = covers; picks = plain-picks .pick; low = lower-in; high = λ i e. e; inner = plain-inner; enough = covers .among }
+
+      -- the same with v for sensor i
+      apt-put : (i v : ℕ) → has (cand x i) v ≡ true → (has able i ≡ true → has (hi x t) v ≡ true) → Apt on (put i v plain) able
+      apt-put i v c q = record {
+        covers = covers;
+        picks = put-picks bd some x i v plain plain-picks c .pick;
+        low = lower-in;
+        high = λ j e. e;
+        inner = λ j e. elim (cases-eq j i) [
+          | inl z ↦ subst (λ (u : ℕ). has (hi x t) (put i v plain u) ≡ true) (sym z) (ap (has (hi x t)) (put-same i v plain) ∙ q (subst (λ (u : ℕ). has able u ≡ true) z e))
+          | inr ne ↦ ap (has (hi x t)) (put-other i v plain j ne) ∙ plain-inner j e
+        ];
+        enough = covers .among;
+      }
+
+      -- S without sensor i, which the covering does not use
+      module _ (i : ℕ) (unused : (u : ℕ) → has (lo x t) u ≡ true → on u ≡ i → ⊥) where
+        slot-put : (v : ℕ) → slot-by on (put i v plain) i ≡ v
+        slot-put v = given-not (has (lo x t)) on i (put i v plain i) (bd .slots) unused ∙ put-same i v plain
+
+        module _ (out : has (lo x s) i ≡ false) where
+          low-drop : (j : ℕ) → has (lo x s) j ≡ true → has (without able (2 ^ i)) j ≡ true
+          low-drop j e = drop-keeps able i j (λ z. both-ways _ out (subst (λ (u : ℕ). has (lo x s) u ≡ true) z e)) (lower-in j e)
+
+          enough-drop : (u : ℕ) → has (lo x t) u ≡ true → has (without able (2 ^ i)) (on u) ≡ true
+          enough-drop u e = drop-keeps able i (on u) (unused u e) (covers .among u e)
+
+          apt-drop : Apt on plain (without able (2 ^ i))
+          apt-drop = record {
+            covers = covers;
+            picks = plain-picks .pick;
+            low = low-drop;
+            high = drop-only able i;
+            inner = λ j e. plain-inner j (drop-only able i j e);
+            enough = enough-drop;
+          }
+
+          apt-drop-put : (v : ℕ) → has (cand x i) v ≡ true → Apt on (put i v plain) (without able (2 ^ i))
+          apt-drop-put v c = record {
+            covers = covers;
+            picks = put-picks bd some x i v plain plain-picks c .pick;
+            low = low-drop;
+            high = drop-only able i;
+            inner = λ j e. ap (has (hi x t)) (put-other i v plain j (drop-apart able i j e)) ∙ plain-inner j (drop-only able i j e);
+            enough = enough-drop;
+          }
+
+      -- ---- what a covering supports
+
+      pub s-in : (v : ℕ) → has able v ≡ true → Supported bd (ranged bd g s t) x (taken s v)
+      s-in v e = by-s on plain able apt-all (lo x) lows v e
+
+      pub t-in : (v : ℕ) → has (lo x t) v ≡ true → Supported bd (ranged bd g s t) x (taken t v)
+      t-in v e = by-t on plain able apt-all (lo x) lows v (t-covers on plain able apt-all (lo x) lows v e)
+
+      pub s-unable : (v : ℕ) → v < room bd s → has able v ≡ false → Supported bd (ranged bd g s t) x (omitted s v)
+      s-unable v q e = by-no-s on plain able apt-all (lo x) lows v q e
+
+      pub rest-in : (j v : ℕ) → j < bd .sets → (j ≡ s → ⊥) → (j ≡ t → ⊥) → has (hi x j) v ≡ true → Supported bd (ranged bd g s t) x (taken j v)
+      rest-in j v h ns nt e = by-rest on plain able apt-all (hi x) (hi-fills bd some x l) j v h ns nt e
+
+      pub rest-out : (j v : ℕ) → j < bd .sets → v < room bd j → (j ≡ s → ⊥) → (j ≡ t → ⊥) → has (lo x j) v ≡ false → Supported bd (ranged bd g s t) x (omitted j v)
+      rest-out j v h q ns nt e = by-no-rest on plain able apt-all (lo x) lows j v h q ns nt e
+
+      -- T without v: each sensor of lo S has another slot, and those that have v are left out of S
+      module _ (v : ℕ) (free : has (lo x t) v ≡ false)
+          (other : (i : ℕ) → has (lo x s) i ≡ true → (u : ℕ) × (has (common cands (hi x t) i) u ≡ true) × (u ≡ v → ⊥)) where
+        apart : ℕ → ℕ
+        apart i = cond (has (lo x s) i) (first (bd .slots) (without (common cands (hi x t) i) (2 ^ v))) (plain i)
+
+        apart-lower : (i : ℕ) → has (lo x s) i ≡ true → (has (common cands (hi x t) i) (apart i) ≡ true) × (apart i ≡ v → ⊥)
+        unfolding apart
+        apart-lower i e =
+            let m = without (common cands (hi x t) i) (2 ^ v) in
+            let w = other i e in
+            let q : has m (first (bd .slots) m) ≡ true = first-has (bd .slots) m (omega (arith, common-low i (able-on i (lower-in i e)))) (nonzero m (w .0) (drop-keeps _ v (w .0) (w .2) (w .1))) in
+            let is : apart i ≡ first (bd .slots) m = cond-true (has (lo x s) i) _ _ e in
+            (ap (has (common cands (hi x t) i)) is ∙ drop-only _ v _ q, λ z. drop-apart _ v _ q (sym is ∙ z))
+
+        apart-else : (i : ℕ) → has (lo x s) i ≡ false → apart i ≡ plain i
+        unfolding apart
+        apart-else i e = cond-false (has (lo x s) i) _ _ e
+
+        apart-inner : (i : ℕ) → has able i ≡ true → has (hi x t) (apart i) ≡ true
+        apart-inner i e = elim (cases-bool (has (lo x s) i)) [
+          | inl q ↦ common-cand i (apart i) (apart-lower i q .0) .1
+          | inr q ↦ ap (has (hi x t)) (apart-else i q) ∙ plain-inner i e
+        ]
+
+        apart-picks : (i : ℕ) → i < bd .sensors → has (cand x i) (apart i) ≡ true
+        apart-picks i h = elim (cases-bool (has (lo x s) i)) [
+          | inl q ↦ common-cand i (apart i) (apart-lower i q .0) .0
+          | inr q ↦ ap (has (cand x i)) (apart-else i q) ∙ plain-picks .pick i h
+        ]
+
+        few : ℕ
+        few = maskOf (λ i. has able i && not (eqb (slot-by on apart i) v)) (bd .sensors)
+
+        few-in : (i : ℕ) → has able i ≡ true → (slot-by on apart i ≡ v → ⊥) → has few i ≡ true
+        unfolding few
+        few-in i e ne = mask-in (λ i. has able i && not (eqb (slot-by on apart i) v)) (bd .sensors) i (able-on i e) (and-from _ _ e (not-from-false _ (ne-eqb _ v ne)))
+
+        few-of : (i : ℕ) → has few i ≡ true → (has able i ≡ true) × (slot-by on apart i ≡ v → ⊥)
+        unfolding few
+        few-of i e =
+            let w = and-parts _ _ (mask-of (λ i. has able i && not (eqb (slot-by on apart i) v)) (bd .sensors) i e .1) in
+            (w .0, eqb-false _ v (not-true _ (w .1)))
+
+        not-claimed : (u : ℕ) → has (lo x t) u ≡ true → u ≡ v → ⊥
+        not-claimed u e z = both-ways _ free (subst (λ (w : ℕ). has (lo x t) w ≡ true) z e)
+
+        keeps-own : (u : ℕ) → has (lo x t) u ≡ true → slot-by on apart (on u) ≡ u
+        keeps-own u e = given-here (has (lo x t)) on (on u) (apart (on u)) (bd .slots) u (claimed-low u e) e refl (λ w a z. covers .apart w u a e z)
+
+        apt-few : Apt on apart few
+        apt-few = record {
+          covers = covers;
+          picks = apart-picks;
+          low = λ i e. few-in i (lower-in i e) (given-in (has (lo x t)) on i (apart i) (bd .slots) (λ u. u ≡ v → ⊥) (λ u q _. not-claimed u q) (apart-lower i e .1));
+          high = λ i e. few-of i e .0;
+          inner = λ i e. apart-inner i (few-of i e .0);
+          enough = λ u e. few-in (on u) (covers .among u e) (λ z. not-claimed u e (sym (keeps-own u e) ∙ z));
+        }
+
+        pub t-out : v < room bd t → Supported bd (ranged bd g s t) x (omitted t v)
+        t-out q = by-no-t on apart few apt-few (lo x) lows v q
+            (elim (cases-bool (has (in-t on apart few apt-few (lo x) lows) v)) [
+              | inr e ↦ e
+              | inl e ↦ (let w = t-onto on apart few apt-few (lo x) lows v e in absurd (few-of (w .0) (w .2) .1 (w .3)))
+            ])
+
+    -- ---- what the coverings say of a sensor
+
+    pub loose-slot : (i v slots : ℕ) → i < bd .sensors → Loose (candidate cands) able (lo x t) (lo x s) (hi x t) (getD cands i 0) slots i → has slots v ≡ true
+        → Supported bd (ranged bd g s t) x (slotted i v)
+    loose-slot i v slots h f e =
+        let on = f .spared .on in
+        let cov = f .spared .covers in
+        let un = f .spared .unused in
+        elim (cases-bool (has (lo x s) i)) [
+          | inl q ↦
+              let c = common-cand i v (ap (λ (m : ℕ). has m v) (sym (f .inner q)) ∙ e) in
+              by-slot on (put i v plain) able (apt-put on cov i v (c .0) (λ _. c .1)) (lo x) lows i v h (slot-put on cov i un v)
+          | inr q ↦
+              let c : has (cand x i) v ≡ true = ap (λ (m : ℕ). has m v) (sym (f .outer q ∙ same i)) ∙ e in
+              by-slot on (put i v plain) (without able (2 ^ i)) (apt-drop-put on cov i un q v c) (lo x) lows i v h (slot-put on cov i un v)
+        ]
+
+    pub tied-slot : (i v slots : ℕ) → i < bd .sensors → Tied (candidate cands) able (lo x t) (getD cands i 0) slots i → has slots v ≡ true
+        → Supported bd (ranged bd g s t) x (slotted i v)
+    tied-slot i v slots h f e =
+        let w = and-parts _ _ (sym (has-and (getD cands i 0) (f .group) v) ∙ ap (λ (m : ℕ). has m v) (sym (f .cut)) ∙ e) in
+        let m = f .needed .may v (w .1) (w .0) in
+        let apt = apt-all (m .on) (m .covers) in
+        by-slot (m .on) plain able apt (lo x) lows i v h (ap (slot-by (m .on) plain) (sym (m .here)) ∙ slot-covered (m .on) plain able apt (lo x) lows v (m .claims))
+
+    pub near-in : (i v : ℕ) → has able i ≡ true → Avoidable (candidate cands) able (lo x t) i → has (common cands (hi x t) i) v ≡ true
+        → Supported bd (ranged bd g s t) x (taken t v)
+    near-in i v e a q =
+        let c = common-cand i v q in
+        let apt = apt-put (a .on) (a .covers) i v (c .0) (λ _. c .1) in
+        by-t (a .on) (put i v plain) able apt (lo x) lows v
+        (subst (λ (u : ℕ). has (in-t (a .on) (put i v plain) able apt (lo x) lows) u ≡ true) (slot-put (a .on) (a .covers) i (a .unused) v)
+        (t-into (a .on) (put i v plain) able apt (lo x) lows i e))
+
+    pub s-out : (v : ℕ) → v < room bd s → Avoidable (candidate cands) able (lo x t) v → has (lo x s) v ≡ false → Supported bd (ranged bd g s t) x (omitted s v)
+    s-out v q a out = by-no-s (a .on) plain (without able (2 ^ v)) (apt-drop (a .on) (a .covers) v (a .unused) out) (lo x) lows v q (drop-gone able v)

@@ -8,6 +8,7 @@ use lib.Count.{ones}
 use lib.Dec.{eqb}
 use lib.ListN.{getD}
 use Rattle.masks.specs.Masks.{has}
+use Rattle.model.specs.Box.{Box, cand, lo, hi}
 
 -- the candidates of sensor i among some slots
 abbrev pub common : List ℕ → ℕ → ℕ → ℕ
@@ -24,3 +25,11 @@ pub record Sure (cands : List ℕ) (sensors slots left found : ℕ) : Type 0 whe
   pub inside : (i : ℕ) → has left i ≡ true → has sensors i ≡ true
   pub only : (v : ℕ) → has found v ≡ true → (i : ℕ) × (has sensors i ≡ true) × (ones (common cands slots i) ≡ 1) × (has (common cands slots i) v ≡ true)
   pub all : (i v : ℕ) → has sensors i ≡ true → has left i ≡ false → ones (common cands slots i) ≡ 1 → has (common cands slots i) v ≡ true → has found v ≡ true
+
+-- what a run reads of box x
+pub record Read (g s t : ℕ) (x : Box) (cands : List ℕ) (lower claimed upper sensors : ℕ) : Type 0 where
+  pub same : (i : ℕ) → getD cands i 0 ≡ cand x i
+  pub lower-is : lower ≡ lo x s
+  pub claimed-is : claimed ≡ lo x t
+  pub upper-is : upper ≡ hi x t
+  pub far : Able cands (bitAnd (hi x s) g) (hi x t) 0 sensors

@@ -1,17 +1,49 @@
-ghost use mathlib.Core.Path.{_≡_};
-ghost use mathlib.Core.Bool.{true, false};
+ghost use mathlib.Core.Bool.{Bool};
 ghost use Prim.Native.Nat.{ℕ};
-ghost use lib.Bits.{bitAnd};
-ghost use Rattle.masks.specs.Masks.{has};
 ghost use Rattle.covering.specs.Covering.{candidate, Short};
-ghost use Rattle.range.specs.Judged.{Judged};
+ghost use Rattle.covering.specs.Notes.{NotesOf};
+ghost use Rattle.range.specs.Judged.{Looked, Judged};
 ghost use Rattle.std.specs.Options.{Cases as BySome};
 use covering::bits::split;
 use covering::bits::with;
 use covering::cover::cover;
 use covering::cover::spare;
+use covering::notes::Notes;
 use covering::notes::Role;
 use masks::contains;
+
+/// The slots that a sensor keeps, and whether every covering uses it.
+#[derive(Clone, Copy)]
+pub struct Seen {
+    pub slots: u64,
+    pub bound: bool,
+}
+
+/// Looks at sensor i with the candidates `own`. One that every covering uses keeps the slots that coverings give it; of the others those in
+/// `lower` keep the slots of `upper`, and the rest keep all.
+pub fn look(notes: &Notes, own: u64, lower: u64, upper: u64, i: u8) -> Seen
+    ensures { λ r. ⌜ ((can : ℕ → ℕ → Bool) (sensors claimed : ℕ) → NotesOf can sensors claimed (now (notes .entry)) → Looked can sensors claimed lower upper own (r .slots) i (r .bound)) ⌝ }
+{
+    match spare(notes, i) {
+        Role::Bound(group) => Seen {
+            slots: own & group,
+            bound: true,
+        },
+        Role::Free => {
+            if contains(lower, i) {
+                Seen {
+                    slots: own & upper,
+                    bound: false,
+                }
+            } else {
+                Seen {
+                    slots: own,
+                    bound: false,
+                }
+            }
+        }
+    }
+}
 
 /// What the coverings leave: for each sensor its slots, the sensors that every covering uses, and the slots that the others have.
 #[derive(Clone, Copy)]
@@ -21,8 +53,7 @@ pub struct Verdict {
     pub near: u64,
 }
 
-/// Looks at each of the sensors, if they cover the claimed slots. A sensor that every covering uses keeps the slots that coverings give it;
-/// of the others those of `lower` keep the slots of `upper`.
+/// Looks at each of the sensors, if they cover the claimed slots.
 pub fn judge(
     cands: &[u64; 64],
     sensors: u64,
@@ -43,24 +74,13 @@ pub fn judge(
     while let Some((i, rest)) = split(left) {
         left = rest;
         let own = cands[i as usize];
-        match spare(&notes, i) {
-            Role::Bound(group) => {
-                keep[i as usize] = own & group;
-                bound = with(bound, i);
-            }
-            Role::Free => {
-                keep[i as usize] = left_free(own, lower, upper, i);
-                near |= own & upper;
-            }
+        let seen = look(&notes, own, lower, upper, i);
+        keep[i as usize] = seen.slots;
+        if seen.bound {
+            bound = with(bound, i);
+        } else {
+            near |= own & upper;
         }
     }
     Some(Verdict { keep, bound, near })
-}
-
-/// The slots of a sensor that some covering leaves out: those of `upper` if the sensor is in `lower`.
-fn left_free(own: u64, lower: u64, upper: u64, i: u8) -> u64
-    ensures inner { λ r. ⌜ (has lower i ≡ true → r ≡ bitAnd own upper) ⌝ }
-    ensures outer { λ r. ⌜ (has lower i ≡ false → r ≡ own) ⌝ }
-{
-    if contains(lower, i) { own & upper } else { own }
 }

@@ -1,4 +1,5 @@
 mod enter;
 mod judge;
 pub mod range;
+mod read;
 mod survey;

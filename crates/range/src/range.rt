@@ -1,15 +1,20 @@
 ghost use mathlib.Core.Path.{_≡_};
+ghost use mathlib.Core.Bool.{true};
+ghost use Rattle.model.specs.Box.{slotted};
 ghost use Rattle.model.specs.Refusals.{refusal};
 ghost use Rattle.model.specs.Settled.{Progress};
-ghost use Rattle.model.specs.Tight.{tight};
+ghost use Rattle.model.specs.Tight.{tight, Supported};
 ghost use Rattle.board.specs.Model.{board, model};
 ghost use Rattle.range.specs.Ranges.{range-causes, ranged, range-fault, range-holds, range-run};
 use crate::enter::enter;
 use crate::judge::judge;
-use crate::survey::able;
+use crate::judge::look;
+use crate::read::look_up;
 use crate::survey::sure;
 use board::domains::Domains;
 use board::refusal::Refusal;
+use covering::cover::cover;
+use masks::contains;
 use masks::is_below;
 use masks::is_within;
 use rule::Rule;
@@ -58,19 +63,42 @@ fn squeeze(d: &mut Domains, g: u64, s: u8, t: u8) -> bool
     ensures model { λ _. ⌜ model (now (d .exit)) ≡ tight (board (now (d .entry))) (ranged (board (now (d .entry))) g s t) (model (now (d .entry))) ⌝ }
     ensures moved { λ r. ⌜ Progress (board (now (d .entry))) r (model (now (d .entry))) (model (now (d .exit))) ⌝ }
 {
-    let cands = d.all_candidates();
-    let lower = d.lower(s);
-    let claimed = d.lower(t);
-    let upper = d.upper(t);
-    let sensors = able(&cands, d.upper(s) & g, upper);
-    if !is_within(lower, sensors) {
+    let was = look_up(d, g, s, t);
+    if !is_within(was.lower, was.sensors) {
         return d.limit(0, 0);
     }
-    match judge(&cands, sensors, claimed, lower, upper) {
+    match judge(&was.cands, was.sensors, was.claimed, was.lower, was.upper) {
         None => d.limit(0, 0),
         Some(verdict) => {
-            let single = sure(&cands, lower, upper);
-            enter(d, s, t, sensors, &verdict, claimed | verdict.near, single)
+            let single = sure(&was.cands, was.lower, was.upper);
+            enter(
+                d,
+                s,
+                t,
+                was.sensors,
+                &verdict,
+                was.claimed | verdict.near,
+                single,
+            )
         }
+    }
+}
+
+// Whether some support gives the sensor the slot.
+pub fn supported(d: &Domains, rule: &Range, sensor: u8, slot: u8) -> bool
+    requires { ⌜ range-fault (board (now d)) (now rule) ≡ 0 ⌝ }
+    ensures used { λ r. ⌜ (r ≡ true → Supported (board (now (d .entry))) (range-holds (board (now (d .entry))) (now (rule .entry))) (model (now (d .entry))) (slotted sensor slot)) ⌝ }
+    ensures found { λ r. ⌜ (Supported (board (now (d .entry))) (range-holds (board (now (d .entry))) (now (rule .entry))) (model (now (d .entry))) (slotted sensor slot) → r ≡ true) ⌝ }
+{
+    let was = look_up(d, rule.g, rule.s, rule.t);
+    if !is_within(was.lower, was.sensors) {
+        return false;
+    }
+    match cover(&was.cands, was.sensors, was.claimed) {
+        Ok(notes) => {
+            let seen = look(&notes, d.candidates(sensor), was.lower, was.upper, sensor);
+            contains(seen.slots, slot)
+        }
+        Err(_) => false,
     }
 }
