@@ -9,6 +9,7 @@ use Rattle.sets.specs.declared.within.Within.{Within}
 use Rattle.sets.specs.declared.apart.Apart.{Apart}
 use Rattle.sets.specs.declared.count.Count.{Count}
 use Rattle.sets.specs.declared.row.Row.{Row}
+use Rattle.range.specs.declared.range.Range.{Range}
 use Rattle.roots.specs.declared.roots.Roots.{Roots}
 use Rattle.kinds.specs.declared.SheetRule.{SheetRule}
 use Rattle.kinds.specs.declared.SheetRule.the-variants as kind
@@ -16,6 +17,9 @@ use Rattle.kinds.specs.SheetRules.{sheet-run}
 
 abbrev box : List ℕ → List ℕ → List ℕ → Box
 box c l h = record { cands = c; lows = l; highs = h }
+
+abbrev range : ℕ → ℕ → ℕ → SheetRule
+range g s t = kind.Range (record { g = g; s = s; t = t })
 
 abbrev roots : ℕ → ℕ → ℕ → SheetRule
 roots g s t = kind.Roots (record { g = g; s = s; t = t })
@@ -43,6 +47,20 @@ case bd r b c = record { on = bd; rule = r; given = b; gives = c }
 
 abbrev pub cases : List Case
 cases =
+    -- Range: the one sensor that can take a claimed slot takes it, and the slots that no sensor has left go
+    case (boardOf 2 5 2 2) (range 3 0 1) (box (10 ∷ 20 ∷ []) (3 ∷ 4 ∷ []) (3 ∷ 31 ∷ [])) (box (10 ∷ 4 ∷ []) (3 ∷ 4 ∷ []) (3 ∷ 14 ∷ [])) ∷
+    -- two claimed slots take two sensors, whichever way round
+    case (boardOf 3 5 2 2) (range 7 0 1) (box (6 ∷ 28 ∷ 24 ∷ []) (7 ∷ 24 ∷ []) (7 ∷ 30 ∷ [])) (box (6 ∷ 24 ∷ 24 ∷ []) (7 ∷ 24 ∷ []) (7 ∷ 30 ∷ [])) ∷
+    -- the only sensor that can serve a claimed slot is in S
+    case (boardOf 1 5 2 2) (range 1 0 1) (box (1 ∷ []) (0 ∷ 1 ∷ []) (1 ∷ 3 ∷ [])) (box (1 ∷ []) (1 ∷ 1 ∷ []) (1 ∷ 1 ∷ [])) ∷
+    -- no sensor of G, and one claimed for S
+    case (boardOf 1 5 2 2) (range 0 0 1) (box (31 ∷ []) (1 ∷ 0 ∷ []) (1 ∷ 31 ∷ [])) (box (0 ∷ []) (0 ∷ 0 ∷ []) (0 ∷ 0 ∷ [])) ∷
+    -- two claimed slots with one sensor between them
+    case (boardOf 2 5 2 2) (range 3 0 1) (box (3 ∷ 4 ∷ []) (3 ∷ 3 ∷ []) (3 ∷ 7 ∷ [])) (box (0 ∷ 0 ∷ []) (0 ∷ 0 ∷ []) (0 ∷ 0 ∷ [])) ∷
+    -- three claimed slots that share two sensors, while another sensor stands elsewhere
+    case (boardOf 3 5 2 2) (range 7 0 1) (box (7 ∷ 7 ∷ 8 ∷ []) (7 ∷ 7 ∷ []) (7 ∷ 15 ∷ [])) (box (0 ∷ 0 ∷ 0 ∷ []) (0 ∷ 0 ∷ []) (0 ∷ 0 ∷ [])) ∷
+    -- a claimed slot that is nobody's candidate
+    case (boardOf 1 5 2 2) (range 1 0 1) (box (1 ∷ []) (0 ∷ 2 ∷ []) (1 ∷ 3 ∷ [])) (box (0 ∷ []) (0 ∷ 0 ∷ []) (0 ∷ 0 ∷ [])) ∷
     -- Roots leaves a slot that has no support: slot 3 of sensor 1
     case (boardOf 4 5 2 2) (roots 15 0 1) (box (6 ∷ 24 ∷ 10 ∷ 12 ∷ []) (12 ∷ 0 ∷ []) (12 ∷ 30 ∷ [])) (box (6 ∷ 24 ∷ 10 ∷ 12 ∷ []) (12 ∷ 0 ∷ []) (12 ∷ 30 ∷ [])) ∷
     -- sensors surely in S keep what T may have

@@ -11,4 +11,4 @@ use Rattle.examples.proofs.examples_stand.Needs as need
 -- one refl for each case
 pub returns : need.returns
 unfolding ones onesIn has tab live dead size below before choose pairs layouts keep union shared hull tight round rounds settledBy gapless is-row implications
-returns c = (refl, (refl, (refl, (refl, (refl, (refl, (refl, (refl, (refl, (refl, (refl, tt)))))))))))
+returns c = (refl, (refl, (refl, (refl, (refl, (refl, (refl, (refl, (refl, (refl, (refl, (refl, (refl, (refl, (refl, (refl, (refl, (refl, tt))))))))))))))))))
