@@ -70,7 +70,8 @@ module _ {R : Type 0} (fault : Board → R → ℕ) (run : Board → R → Box �
       → (t ≡ after fault run (callsAll xs) s) × Answered fault run xs s given
   all-played xs s i t given e w = (
     w .plan ∙ ap (λ z. after fault run (callsAll z) s) (take-all i xs (omega arith)),
-    λ k h l. w .answered k (omega arith) l)
+    λ k h l. w .answered k (omega arith) l,
+  )
 
   after-places : (cs : List (Call R)) (s : State R) → after fault run cs s .places ≡ s .places
   after-places [] s = refl

@@ -1,3 +1,3 @@
 pub mod draft;
-pub mod settled;
 pub mod mix;
+pub mod settled;

@@ -25,7 +25,11 @@ pub enum Step<R> {
 
 // Makes the calls of the steps one after the other, and gives the answers one for one: 0, or the number of the refusal.
 // If a mix of calls led to the draft, that mix and these calls lead to the one that is given back, so that settling it keeps every promise on mixes.
-pub fn play<'a, R: Rule + Copy>(draft: Draft<'a, R>, steps: &[Step<R>], answers: &mut [u8]) -> Draft<'a, R>
+pub fn play<'a, R: Rule + Copy>(
+    draft: Draft<'a, R>,
+    steps: &[Step<R>],
+    answers: &mut [u8],
+) -> Draft<'a, R>
     ensures lent { λ r. ⌜ name (r .places) ≡ name (draft .entry .places) ⌝ }
     ensures plan { λ r. ⌜ state (r .plan) (now (r .places)) (r .count) false ≡ after fault run (callsAll (now (steps .entry))) (state (draft .entry .plan) (now (draft .entry .places)) (draft .entry .count) false) ⌝ }
     ensures answered { λ r. ⌜ Answered fault run (now (steps .entry)) (state (draft .entry .plan) (now (draft .entry .places)) (draft .entry .count) false) (now (answers .exit)) ⌝ }

@@ -86,10 +86,17 @@ impl<'a, R: Rule> Settled<'a, R> {
             places,
             count,
         } = self;
-        Draft {
-            plan,
-            places,
-            count,
-        }
+        draft_of(plan, places, count)
+    }
+}
+
+fn draft_of<'a, R>(plan: Domains, places: &'a mut [R], count: usize) -> Draft<'a, R>
+    ensures lent { λ r. ⌜ name (r .places) ≡ name (places .entry) ⌝ }
+    ensures plan { λ r. ⌜ (r .plan ≡ plan) × (now (r .places) ≡ now (places .entry)) × (r .count ≡ count) ⌝ }
+{
+    Draft {
+        plan,
+        places,
+        count,
     }
 }
