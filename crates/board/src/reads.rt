@@ -42,10 +42,9 @@ impl Domains {
     pub fn room(&self, set: u8) -> u8
         ensures { λ r. ⌜ r ≡ roomOf (board (now (self .entry))) set ⌝ }
     {
-        if self.of_slots(set) {
-            self.slots
-        } else {
-            self.sensors
+        match self.of_slots(set) {
+            true => self.slots,
+            false => self.sensors,
         }
     }
 
