@@ -1,6 +1,8 @@
 ghost use Rattle.kinds.specs.SheetRules.{sheet-fault, sheet-holds, sheet-run};
 use board::domains::Domains;
 use board::refusal::Refusal;
+use range::range::Range;
+use range::range::RangeRule;
 use roots::roots::Roots;
 use roots::roots::RootsRule;
 use rule::Rule;
@@ -16,6 +18,7 @@ use sets::within::WithinRule;
 // A rule of a sheet: one of the kinds, and a kind itself.
 #[derive(Clone, Copy)]
 pub enum SheetRule {
+    Range(Range),
     Roots(Roots),
     Within(Within),
     Apart(Apart),
@@ -32,6 +35,7 @@ pub impl Rule for SheetRule as AnySheetRule {
 
     fn fit(&self, d: &Domains) -> Result<(), Refusal> {
         match self {
+            SheetRule::Range(r) => r.fit(d),
             SheetRule::Roots(r) => r.fit(d),
             SheetRule::Within(r) => r.fit(d),
             SheetRule::Apart(r) => r.fit(d),
@@ -42,6 +46,7 @@ pub impl Rule for SheetRule as AnySheetRule {
 
     fn narrow(&self, d: &mut Domains) -> bool {
         match self {
+            SheetRule::Range(r) => r.narrow(d),
             SheetRule::Roots(r) => r.narrow(d),
             SheetRule::Within(r) => r.narrow(d),
             SheetRule::Apart(r) => r.narrow(d),

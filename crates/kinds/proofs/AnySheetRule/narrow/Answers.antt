@@ -11,10 +11,17 @@ use Rattle.kinds.proofs.AnySheetRule.narrow.Needs as need
 as-case : (bd : Board) (b : Box) {x y : SheetRule} → x ≡ y → asked sheet-fault sheet-run bd y b ≡ asked sheet-fault sheet-run bd x b
 as-case bd b e = ap (λ z. asked sheet-fault sheet-run bd z b) (sym e)
 
+pub returns-in-Range : need.returns-in-Range
+unfolding asked
+returns-in-Range c =
+    let e = c .narrow .ensures in
+    let d = c .args .d .now in
+    record { board = e .board; model = e .model ∙ as-case (board d) (model d) (c .in-Range .is); moved = e .moved }
+
 pub returns-in-Roots : need.returns-in-Roots
 unfolding asked
 returns-in-Roots c =
-    let e = c .narrow .ensures in
+    let e = c .narrow-in-Roots .ensures in
     let d = c .args .d .now in
     record { board = e .board; model = e .model ∙ as-case (board d) (model d) (c .in-Roots .is); moved = e .moved }
 
