@@ -1,0 +1,174 @@
+-- The first fault of a walk: one step, and what is known where there is none.
+use mathlib.Core.Path.{_≡_, refl, sym, ap, subst, _∙_}
+use mathlib.Core.Bool.{Bool, true, false, not, cond}
+use mathlib.Core.List.{List, [], _∷_, _++_}
+use Prim.Native.Nat.{ℕ, zero, suc, _+_}
+use native.Mathlib.Omega.{arith}
+use denote.Ref.{now}
+use lib.Dec.{eqb}
+use lib.ListN.{length, drop}
+use Rattle.std.specs.declared.result.Result.{Result}
+use Rattle.std.specs.declared.result.Result.the-variants.{Ok, Err}
+use Rattle.std.specs.declared.option.Option.{Option}
+use Rattle.std.specs.declared.option.Option.the-variants.{Some, None}
+use Rattle.std.proofs.shelf.Tests.{eq-eqb, ne-eqb, eqb-true, cond-true, cond-false}
+use Rattle.model.specs.Board.{boardOf}
+use Rattle.model.specs.Box.{full}
+use Rattle.model.specs.Refusals.{refusal}
+use Rattle.model.specs.Calls.{State, Call, draft, after, new-causes}
+use Rattle.kinds.specs.declared.SheetRule.{SheetRule}
+use Rattle.kinds.specs.SheetRules.{sheet-fault, sheet-run}
+use Rattle.sheet.specs.declared.reader.Reader.{Reader}
+use Rattle.sheet.specs.Layout.{Rec, head, name, limit, claim, bar, range, roots, within, apart, count, row, headed}
+use Rattle.sheet.specs.Steps.{turn, opens}
+use Rattle.sheet.specs.Files.{before, readOn, readAll}
+use Rattle.sheet.proofs.Whole.{turn-some}
+use Rattle.load.specs.declared.check.Sketch.{Sketch}
+use Rattle.load.specs.Acts.{actOf, verdict, taken, calls, callsOf}
+use Rattle.load.specs.Walks.{Walk, end, stop, step, goes, walkFrom, walkOn, walksOn, recordsOf}
+use Rattle.load.specs.Loads.{firstFault, closing, blank, loadFault, Loaded, Stands}
+use Rattle.load.proofs.Walking.{steps, read-walk}
+
+-- One step.
+
+pub fault-end : (s : State SheetRule) → firstFault s end ≡ None
+unfolding firstFault
+fault-end s = refl
+
+pub fault-stop : (s : State SheetRule) (e at : ℕ) → firstFault s (stop e at) ≡ Some (e, at)
+unfolding firstFault
+fault-stop s e at = refl
+
+pub fault-on : (s : State SheetRule) (at : ℕ) (r : Rec) (w : Walk) → verdict (actOf r) s ≡ 0 → firstFault s (step at r w) ≡ firstFault (taken (actOf r) s) w
+unfolding firstFault
+fault-on s at r w z = cond-true (eqb (verdict (actOf r) s) 0) _ _ (eq-eqb (verdict (actOf r) s) 0 z)
+
+pub fault-here : (s : State SheetRule) (at : ℕ) (r : Rec) (w : Walk) → (verdict (actOf r) s ≡ 0 → ⊥) → firstFault s (step at r w) ≡ Some (verdict (actOf r) s, at)
+unfolding firstFault
+fault-here s at r w n = cond-false (eqb (verdict (actOf r) s) 0) _ _ (ne-eqb (verdict (actOf r) s) 0 n)
+
+none-of : (b : Bool) (x : Option (ℕ × ℕ)) (y : ℕ × ℕ) → cond b x (Some y) ≡ None → (b ≡ true) × (x ≡ None)
+none-of true x y h = (refl, h)
+none-of false x y h = (cc, cc)
+
+-- where a walk has no fault, its first record has none
+pub none-on : (s : State SheetRule) (at : ℕ) (r : Rec) (w : Walk) → firstFault s (step at r w) ≡ None → (verdict (actOf r) s ≡ 0) × (firstFault (taken (actOf r) s) w ≡ None)
+unfolding firstFault
+none-on s at r w h =
+    let n = none-of (eqb (verdict (actOf r) s) 0) (firstFault (taken (actOf r) s) w) (verdict (actOf r) s, at) h in
+    (eqb-true (verdict (actOf r) s) 0 (n .0), n .1)
+
+none-stop : (s : State SheetRule) (e at : ℕ) → firstFault s (stop e at) ≡ None → ⊥
+none-stop s e at h =
+    let k = sym (fault-stop s e at) ∙ h in
+    let z : _≡_ {A = ℕ} 0 1 = cc in omega arith
+
+pub closing-on : (s : State SheetRule) (at : ℕ) (r : Rec) (w : Walk) → closing s (step at r w) ≡ closing (taken (actOf r) s) w
+unfolding closing
+closing-on s at r w = refl
+
+-- The head.
+
+never : {X : Type 0} → false ≡ true → X
+never e = absurd (let z : _≡_ {A = ℕ} 0 1 = cc in omega arith)
+
+is-head : (r : Rec) → headed r ≡ true → (n : ℕ) × (m : ℕ) × (k : ℕ) × (w : ℕ) × (r ≡ head n m k w)
+is-head (head n m k w) h = (n, m, k, w, refl)
+is-head (name s t) h = never h
+is-head (limit s x) h = never h
+is-head (claim s x) h = never h
+is-head (bar s x) h = never h
+is-head (range g s t) h = never h
+is-head (roots g s t) h = never h
+is-head (within a b) h = never h
+is-head (apart a b) h = never h
+is-head (count a p q) h = never h
+is-head (row a) h = never h
+
+-- the plan before a head shows by its places only
+head-same : (s t : State SheetRule) → s .places ≡ t .places → (n m k w at : ℕ) (v : Walk) → firstFault s (step at (head n m k w) v) ≡ firstFault t (step at (head n m k w) v)
+unfolding firstFault verdict taken
+head-same s t e n m k w at v =
+    let bd = boardOf n m k w in
+    let a = refusal (new-causes n m k w) in
+    ap (λ (p : ℕ). cond (eqb a 0) (firstFault (draft bd p (full bd)) v) (Some (a, at))) e
+
+goes-same : (s t : State SheetRule) → s .places ≡ t .places → (u : Result (Option (Rec × ℕ)) ℕ) (at : ℕ) (rest : ℕ → Walk) → ((p : Rec × ℕ) → u ≡ Ok (Some p) → headed (p .0) ≡ true) → firstFault s (goes u at rest) ≡ firstFault t (goes u at rest)
+goes-same s t e (Ok None) at rest h = fault-end s ∙ sym (fault-end t)
+goes-same s t e (Ok (Some p)) at rest h =
+    let i = is-head (p .0) (h p refl) in
+    subst (λ (r : Rec). firstFault s (step at r (rest (at + p .1))) ≡ firstFault t (step at r (rest (at + p .1)))) (sym (i .4)) (head-same s t e (i .0) (i .1) (i .2) (i .3) at (rest (at + p .1)))
+goes-same s t e (Err x) at rest h = fault-stop s x at ∙ sym (fault-stop t x at)
+
+pub start-same : (s t : State SheetRule) → s .places ≡ t .places → (file : List ℕ) → firstFault s (walkOn file 1 false) ≡ firstFault t (walkOn file 1 false)
+start-same s t e file =
+    ap (firstFault s) (steps file 1 false)
+    ∙ goes-same s t e (turn false (drop 1 file)) 1 (λ next. walkOn file next true) (λ p h. turn-some false (drop 1 file) p h .1)
+    ∙ sym (ap (firstFault t) (steps file 1 false))
+
+-- A walk without a fault is a history.
+
+call-on : (r : Rec) → headed r ≡ false → (s : State SheetRule) (cs : List (Call SheetRule)) → after sheet-fault sheet-run cs (taken (actOf r) s) ≡ after sheet-fault sheet-run (calls (actOf r) ++ cs) s
+unfolding taken calls
+call-on (head n m k w) h s cs = never (sym h)
+call-on (name i t) h s cs = refl
+call-on (limit i x) h s cs = refl
+call-on (claim j x) h s cs = refl
+call-on (bar j x) h s cs = refl
+call-on (range g i t) h s cs = refl
+call-on (roots g i t) h s cs = refl
+call-on (within a b) h s cs = refl
+call-on (apart a b) h s cs = refl
+call-on (count a p q) h s cs = refl
+call-on (row a) h s cs = refl
+
+-- after the head: records, and the plan that their calls leave
+record History (s : State SheetRule) (w : Walk) : Type 0 where
+  pub rest : List Rec
+  pub read : recordsOf w ≡ Ok rest
+  pub plan : closing s w ≡ after sheet-fault sheet-run (callsOf rest) s
+
+history-goes : (s : State SheetRule) (u : Result (Option (Rec × ℕ)) ℕ) (at : ℕ) (rest : ℕ → Walk) → ((p : Rec × ℕ) → u ≡ Ok (Some p) → headed (p .0) ≡ false) → ((t : State SheetRule) (i : ℕ) → firstFault t (rest i) ≡ None → History t (rest i)) → firstFault s (goes u at rest) ≡ None → History s (goes u at rest)
+unfolding closing
+history-goes s (Ok None) at rest h ih z = record { rest = []; read = refl; plan = refl }
+history-goes s (Ok (Some p)) at rest h ih z =
+    let t = taken (actOf (p .0)) s in
+    let y = ih t (at + p .1) (none-on s at (p .0) (rest (at + p .1)) z .1) in
+    record { rest = p .0 ∷ y .rest; read = ap (before (p .0)) (y .read); plan = y .plan ∙ call-on (p .0) (h p refl) s (callsOf (y .rest)) }
+history-goes s (Err x) at rest h ih z = absurd (none-stop s x at z)
+
+history-from : (n : ℕ) (file : List ℕ) (at : ℕ) (s : State SheetRule) → firstFault s (walkFrom n file at true) ≡ None → History s (walkFrom n file at true)
+unfolding walkFrom
+history-from zero file at s z = absurd (none-stop s 0 at z)
+history-from (suc n) file at s z =
+    history-goes s (turn true (drop at file)) at (λ next. walkFrom n file next true) (λ p h. turn-some true (drop at file) p h .1) (λ t i. history-from n file i t) z
+
+history : (file : List ℕ) (at : ℕ) (s : State SheetRule) → firstFault s (walkOn file at true) ≡ None → History s (walkOn file at true)
+unfolding walkOn
+history file at s z = history-from (suc (length (drop at file))) file at s z
+
+-- with the head
+record Begun (places : ℕ) (w : Walk) (z : State SheetRule) : Type 0 where
+  pub n : ℕ
+  pub m : ℕ
+  pub k : ℕ
+  pub kinds : ℕ
+  pub rest : List Rec
+  pub read : recordsOf w ≡ Ok (head n m k kinds ∷ rest)
+  pub plan : z ≡ after sheet-fault sheet-run (callsOf rest) (draft (boardOf n m k kinds) places (full (boardOf n m k kinds)))
+
+begun-head : (s : State SheetRule) (n m k w at : ℕ) (v : Walk) → ((t : State SheetRule) → firstFault t v ≡ None → History t v) → firstFault s (step at (head n m k w) v) ≡ None → Begun (s .places) (step at (head n m k w) v) (closing s (step at (head n m k w) v))
+unfolding taken closing
+begun-head s n m k w at v ih z =
+    let y = ih (taken (actOf (head n m k w)) s) (none-on s at (head n m k w) v z .1) in
+    record { n = n; m = m; k = k; kinds = w; rest = y .rest; read = ap (before (head n m k w)) (y .read); plan = y .plan }
+
+begun-goes : (s : State SheetRule) (u : Result (Option (Rec × ℕ)) ℕ) (at : ℕ) (rest : ℕ → Walk) → (u ≡ Ok None → ⊥) → ((p : Rec × ℕ) → u ≡ Ok (Some p) → headed (p .0) ≡ true) → ((t : State SheetRule) (i : ℕ) → firstFault t (rest i) ≡ None → History t (rest i)) → firstFault s (goes u at rest) ≡ None → Begun (s .places) (goes u at rest) (closing s (goes u at rest))
+begun-goes s (Ok None) at rest n h ih z = absurd (n refl)
+begun-goes s (Ok (Some p)) at rest n h ih z =
+    let v = rest (at + p .1) in
+    let i = is-head (p .0) (h p refl) in
+    let e = i .4 in
+    let y = begun-head s (i .0) (i .1) (i .2) (i .3) at v (λ t. ih t (at + p .1)) (subst (λ (r : Rec). firstFault s (step at r v) ≡ None) e z) in
+    subst (λ (r : Rec). Begun (s .places) (step at r v) (closing s (step at r v))) (sym e) y
+begun-goes s (Err x) at rest n h ih z = absurd (none-stop s x at z)
