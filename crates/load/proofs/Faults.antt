@@ -20,14 +20,14 @@ use Rattle.kinds.specs.declared.SheetRule.{SheetRule}
 use Rattle.kinds.specs.SheetRules.{sheet-fault, sheet-run}
 use Rattle.sheet.specs.declared.reader.Reader.{Reader}
 use Rattle.sheet.specs.Layout.{Rec, head, name, limit, claim, bar, range, roots, within, apart, count, row, headed}
-use Rattle.sheet.specs.Steps.{turn, opens}
+use Rattle.sheet.specs.Steps.{turn, opens, told, turned, Moved}
 use Rattle.sheet.specs.Files.{before, readOn, readAll}
-use Rattle.sheet.proofs.Whole.{turn-some}
+use Rattle.sheet.proofs.Whole.{turn-some, turn-none}
 use Rattle.load.specs.declared.check.Sketch.{Sketch}
 use Rattle.load.specs.Acts.{actOf, verdict, taken, calls, callsOf}
-use Rattle.load.specs.Walks.{Walk, end, stop, step, goes, walkFrom, walkOn, walksOn, recordsOf}
+use Rattle.load.specs.Walks.{Walk, end, stop, step, goes, walkFrom, walkOn, walksOn, recordsOf, thenWalk}
 use Rattle.load.specs.Loads.{firstFault, closing, blank, loadFault, Loaded, Stands}
-use Rattle.load.proofs.Walking.{steps, read-walk}
+use Rattle.load.proofs.Walking.{steps, read-walk, walked}
 
 -- One step.
 
@@ -66,6 +66,19 @@ none-stop s e at h =
 pub closing-on : (s : State SheetRule) (at : ℕ) (r : Rec) (w : Walk) → closing s (step at r w) ≡ closing (taken (actOf r) s) w
 unfolding closing
 closing-on s at r w = refl
+
+closing-end : (s : State SheetRule) → closing s end ≡ s
+unfolding closing
+closing-end s = refl
+
+closing-stop : (s : State SheetRule) (e at : ℕ) → closing s (stop e at) ≡ s
+unfolding closing
+closing-stop s e at = refl
+
+told-at : (at : ℕ) (t : Result (Option (Rec × ℕ)) ℕ) (f : ℕ × ℕ) → Err f ≡ told at t → f .1 ≡ at
+told-at at (Ok None) f h = absurd (let z : _≡_ {A = ℕ} 0 1 = cc in omega arith)
+told-at at (Ok (Some p)) f h = absurd (let z : _≡_ {A = ℕ} 0 1 = cc in omega arith)
+told-at at (Err e) f h = let q : f ≡ (e, at) = cc in ap (λ (p : ℕ × ℕ). p .1) q
 
 -- The head.
 
@@ -172,3 +185,62 @@ begun-goes s (Ok (Some p)) at rest n h ih z =
     let y = begun-head s (i .0) (i .1) (i .2) (i .3) at v (λ t. ih t (at + p .1)) (subst (λ (r : Rec). firstFault s (step at r v) ≡ None) e z) in
     subst (λ (r : Rec). Begun (s .places) (step at r v) (closing s (step at r v))) (sym e) y
 begun-goes s (Err x) at rest n h ih z = absurd (none-stop s x at z)
+
+-- an accepted file
+pub loaded : (file : List ℕ) (s : State SheetRule) → opens file ≡ true → firstFault s (walkOn file 1 false) ≡ None → Loaded file (s .places) (closing s (walkOn file 1 false))
+loaded file s o z =
+    let e = steps file 1 false in
+    let y = begun-goes s (turn false (drop 1 file)) 1 (λ next. walkOn file next true)
+        (λ h. never (turn-none false (drop 1 file) h .1)) (λ p h. turn-some false (drop 1 file) p h .1) (λ t i. history file i t) (subst (λ (w : Walk). firstFault s w ≡ None) e z) in
+    record {
+      n = y .n; m = y .m; k = y .k; kinds = y .kinds; rest = y .rest;
+      read = cond-true (opens file) (readOn file 1 false) (Err (10, 0)) o ∙ read-walk file 1 false ∙ ap recordsOf e ∙ y .read;
+      plan = ap (closing s) e ∙ y .plan;
+    }
+
+-- what was entered after a check is an accepted file
+pub loads : (file : List ℕ) (s t : State SheetRule) (x : Reader) → opens file ≡ true → walksOn x ≡ walkOn file 1 false → loadFault file (s .places) ≡ None
+    → (firstFault s (walksOn x) ≡ None → t ≡ closing s (walksOn x)) → Loaded file (s .places) t
+unfolding loadFault
+loads file s t x o e z f =
+    let w = walkOn file 1 false in
+    let y : firstFault (blank (s .places)) w ≡ None = sym (cond-true (opens file) (firstFault (blank (s .places)) w) (Some (10, 0)) o) ∙ z in
+    let n : firstFault s w ≡ None = start-same s (blank (s .places)) refl file ∙ y in
+    subst (Loaded file (s .places)) (sym (f (ap (firstFault s) e ∙ n) ∙ ap (closing s) e)) (loaded file s o n)
+
+-- a file that does not open is not accepted
+pub not-opened : (file : List ℕ) (places : ℕ) → opens file ≡ false → loadFault file places ≡ None → ⊥
+unfolding loadFault
+not-opened file places o z =
+    let h = sym (cond-false (opens file) (firstFault (blank places) (walkOn file 1 false)) (Some (10, 0)) o) ∙ z in
+    let q : _≡_ {A = ℕ} 0 1 = cc in omega arith
+
+-- One answer of the reader.
+
+module _ (s : State SheetRule) (x y : Reader) (m : Moved x y) where
+  pub here-end : Ok None ≡ told (x .at) (turned x) → firstFault s (walksOn x) ≡ None
+  here-end v = ap (firstFault s) (walked x y (Ok None) v m) ∙ fault-end s
+
+  pub here-stop : (f : ℕ × ℕ) → Err f ≡ told (x .at) (turned x) → firstFault s (walksOn x) ≡ Some (f .0, x .at)
+  here-stop f v = ap (firstFault s) (walked x y (Err f) v m) ∙ fault-stop s (f .0) (f .1) ∙ ap (λ (p : ℕ). Some (f .0, p)) (told-at (x .at) (turned x) f v)
+
+  pub here-on : (r : Rec) → Ok (Some r) ≡ told (x .at) (turned x) → verdict (actOf r) s ≡ 0 → firstFault s (walksOn x) ≡ firstFault (taken (actOf r) s) (walksOn y)
+  here-on r v z = ap (firstFault s) (walked x y (Ok (Some r)) v m) ∙ fault-on s (x .at) r (walksOn y) z
+
+  pub here-fault : (r : Rec) → Ok (Some r) ≡ told (x .at) (turned x) → (verdict (actOf r) s ≡ 0 → ⊥) → firstFault s (walksOn x) ≡ Some (verdict (actOf r) s, x .at)
+  here-fault r v n = ap (firstFault s) (walked x y (Ok (Some r)) v m) ∙ fault-here s (x .at) r (walksOn y) n
+
+  -- entered without a fault, a record leaves the plan that the rest goes on from
+  pub enters : (r : Rec) (t : State SheetRule) → Ok (Some r) ≡ told (x .at) (turned x) → firstFault s (walksOn x) ≡ None → (verdict (actOf r) s ≡ 0 → t ≡ taken (actOf r) s) → (firstFault t (walksOn y) ≡ None) × (closing s (walksOn x) ≡ closing t (walksOn y))
+  enters r t v z f =
+      let w = walked x y (Ok (Some r)) v m in
+      let n = none-on s (x .at) r (walksOn y) (sym (ap (firstFault s) w) ∙ z) in
+      let e = f (n .0) in
+      (ap (λ (u : State SheetRule). firstFault u (walksOn y)) e ∙ n .1, ap (closing s) w ∙ closing-on s (x .at) r (walksOn y) ∙ ap (λ (u : State SheetRule). closing u (walksOn y)) (sym e))
+
+  -- at the end the plan is closed
+  pub closes-end : Ok None ≡ told (x .at) (turned x) → closing s (walksOn x) ≡ s
+  closes-end v = ap (closing s) (walked x y (Ok None) v m) ∙ closing-end s
+
+  pub closes-stop : (f : ℕ × ℕ) → Err f ≡ told (x .at) (turned x) → closing s (walksOn x) ≡ s
+  closes-stop f v = ap (closing s) (walked x y (Err f) v m) ∙ closing-stop s (f .0) (f .1)

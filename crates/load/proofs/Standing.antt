@@ -7,6 +7,8 @@ use native.Mathlib.Omega.{arith}
 use lib.Dec.{eqb, leb}
 use lib.ListN.{length, length-append}
 use Rattle.std.specs.Vec.{made}
+use Rattle.std.specs.declared.option.Option.{Option}
+use Rattle.std.specs.declared.option.Option.the-variants.{Some}
 use Rattle.std.specs.declared.result.Result.{Result}
 use Rattle.std.specs.declared.result.Result.the-variants.{Ok, Err}
 use Rattle.std.proofs.shelf.Tests.{eq-eqb, cond-true}
@@ -99,3 +101,6 @@ pub record Goes-on (s : State SheetRule) (x y : Reader) (t : Sketch) : Type 0 wh
   pub plan : State SheetRule
   pub stands : Stands plan t
   pub same : firstFault s (walksOn x) ≡ firstFault plan (walksOn y)
+
+pub some-fault : {a b p q : ℕ} → a ≡ b → p ≡ q → _≡_ {A = Option (ℕ × ℕ)} (Some (a, p)) (Some (b, q))
+some-fault e f = cc

@@ -10,9 +10,10 @@ use Rattle.std.specs.declared.result.Result.{Result}
 use Rattle.std.specs.declared.result.Result.the-variants.{Ok, Err}
 use Rattle.std.specs.declared.option.Option.{Option}
 use Rattle.std.specs.declared.option.Option.the-variants.{Some, None}
+use Rattle.std.proofs.shelf.Ways.{tells}
 use Rattle.sheet.specs.declared.reader.Reader.{Reader}
-use Rattle.sheet.specs.Layout.{Rec}
-use Rattle.sheet.specs.Steps.{turn, told, onward, started, turned, Moved}
+use Rattle.sheet.specs.Layout.{Rec, longest}
+use Rattle.sheet.specs.Steps.{opens, turn, told, onward, started, turned, Moved}
 use Rattle.sheet.specs.Files.{before, follow, readFrom, readOn}
 use Rattle.sheet.proofs.Records.{found}
 use Rattle.sheet.proofs.Whole.{shorter, turn-some}
@@ -61,6 +62,18 @@ stays-in x y m i =
     let q : length (now (y .file)) ≡ length (now (x .file)) = ap length (m .file) in
     let o = onward-in (now (x .file)) (x .at) (x .begun) (turned x) refl (i .place) in
     record { place = omega (arith, q, o, m .at); size = omega (arith, q, i .size) }
+
+-- a reader just opened
+module _ (file : List ℕ) (x : Reader) where
+  pub opened : now (x .file) ≡ file → x .at ≡ 1 → x .begun ≡ false → walksOn x ≡ walkOn file 1 false
+  opened f a b = cc
+
+  pub opened-in : opens file ≡ true → now (x .file) ≡ file → x .at ≡ 1 → InFile x
+  opened-in o f a =
+      let l : 0 < length file = grind (arith, tells) in
+      let m : length file ≤ longest = grind (arith, tells) in
+      let q : length (now (x .file)) ≡ length file = ap length f in
+      record { place = omega arith; size = omega arith }
 
 -- reading gives the records of the walk
 follow-goes : (t : Result (Option (Rec × ℕ)) ℕ) (at : ℕ) (f : ℕ → Result (List Rec) (ℕ × ℕ)) (g : ℕ → Walk) → ((i : ℕ) → f i ≡ recordsOf (g i)) → follow t at f ≡ recordsOf (goes t at g)

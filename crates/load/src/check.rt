@@ -142,13 +142,16 @@ fn check_records(mut reader: Reader<'_>, mut sketch: Sketch) -> Result<(), LoadF
 {
     loop {
         let position = reader.position() as u32;
-        match reader.next() {
+        let next = match reader.next() {
+            Ok(next) => next,
             Err(fault) => return Err(LoadFault::new(fault.cause.number(), position)),
-            Ok(None) => return Ok(()),
-            Ok(Some(one)) => match sketch.take(act_of(one)) {
-                Ok(()) => {}
-                Err(refusal) => return Err(LoadFault::new(refusal.number(), position)),
-            },
+        };
+        let Some(one) = next else {
+            return Ok(());
+        };
+        match sketch.take(act_of(one)) {
+            Ok(()) => {}
+            Err(refusal) => return Err(LoadFault::new(refusal.number(), position)),
         }
     }
 }

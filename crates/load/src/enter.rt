@@ -32,7 +32,10 @@ pub(crate) fn enter_records(mut reader: Reader<'_>, draft: &mut Draft<'_, SheetR
     ensures lent { λ _. ⌜ name (now (draft .exit) .places) ≡ name (now (draft .entry) .places) ⌝ }
     ensures plan { λ _. ⌜ (firstFault (stateOf (now (draft .entry))) (walksOn (reader .entry)) ≡ None → stateOf (now (draft .exit)) ≡ closing (stateOf (now (draft .entry))) (walksOn (reader .entry))) ⌝ }
 {
-    while let Ok(Some(one)) = reader.next() {
+    while let Ok(next) = reader.next() {
+        let Some(one) = next else {
+            return;
+        };
         let _ = enter(act_of(one), draft);
     }
 }

@@ -8,8 +8,8 @@ use Rattle.load.specs.Loads.{Stands}
 use Rattle.load.proofs.Standing.{Goes-on}
 use Rattle.load.proofs.check.check_records.Given as given
 
-abbrev pub Inv-loop-fault : given.InvT-loop-fault
-Inv-loop-fault l = InFile (l .reader) × ((s : State SheetRule) → Stands s (l .entry .sketch) → Goes-on s (l .entry .reader) (l .reader) (l .sketch))
+abbrev pub Inv-loop-next : given.InvT-loop-next
+Inv-loop-next l = InFile (l .reader) × ((s : State SheetRule) → Stands s (l .entry .sketch) → Goes-on s (l .entry .reader) (l .reader) (l .sketch))
 
-abbrev pub μ-loop-fault : given.MeasureT-loop-fault
-μ-loop-fault l = length (unread (l .reader))
+abbrev pub μ-loop-next : given.MeasureT-loop-next
+μ-loop-next l = length (unread (l .reader))

@@ -7,11 +7,11 @@ use Rattle.load.specs.Walks.{walksOn}
 use Rattle.load.specs.Loads.{stateOf, firstFault, closing}
 use Rattle.load.proofs.enter.enter_records.Given as given
 
-abbrev pub Inv-loop-one : given.InvT-loop-one
-Inv-loop-one l =
+abbrev pub Inv-loop-next : given.InvT-loop-next
+Inv-loop-next l =
     (name (l .draft .places) ≡ name (l .entry .draft .places))
     × (firstFault (stateOf (l .entry .draft)) (walksOn (l .entry .reader)) ≡ None
     → (firstFault (stateOf (l .draft)) (walksOn (l .reader)) ≡ None) × (closing (stateOf (l .entry .draft)) (walksOn (l .entry .reader)) ≡ closing (stateOf (l .draft)) (walksOn (l .reader))))
 
-abbrev pub μ-loop-one : given.MeasureT-loop-one
-μ-loop-one l = length (unread (l .reader))
+abbrev pub μ-loop-next : given.MeasureT-loop-next
+μ-loop-next l = length (unread (l .reader))
