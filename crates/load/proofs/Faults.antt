@@ -24,9 +24,9 @@ use Rattle.sheet.specs.Steps.{turn, opens, told, turned, Moved}
 use Rattle.sheet.specs.Files.{before, readOn, readAll}
 use Rattle.sheet.proofs.Whole.{turn-some, turn-none}
 use Rattle.load.specs.declared.check.Sketch.{Sketch}
-use Rattle.load.specs.Acts.{actOf, verdict, taken, calls, callsOf}
+use Rattle.load.specs.Acts.{actOf, verdict, taken, calls, callsOf, Unrefused}
 use Rattle.load.specs.Walks.{Walk, end, stop, step, goes, walkFrom, walkOn, walksOn, recordsOf, thenWalk}
-use Rattle.load.specs.Loads.{firstFault, closing, blank, loadFault, Loaded, Stands}
+use Rattle.load.specs.Loads.{firstFault, closing, blank, loadFault, loadPlan, Loaded}
 use Rattle.load.proofs.Walking.{steps, read-walk, walked}
 
 -- One step.
@@ -135,19 +135,40 @@ call-on (apart a b) h s cs = refl
 call-on (count a p q) h s cs = refl
 call-on (row a) h s cs = refl
 
+good-on : (r : Rec) → headed r ≡ false → (s : State SheetRule) (cs : List (Call SheetRule)) → verdict (actOf r) s ≡ 0 → Unrefused cs (taken (actOf r) s) → Unrefused (calls (actOf r) ++ cs) s
+unfolding verdict taken calls
+good-on (head n m k w) h s cs z g = never (sym h)
+good-on (name i t) h s cs z g = g
+good-on (limit i x) h s cs z g = (z, g)
+good-on (claim j x) h s cs z g = (z, g)
+good-on (bar j x) h s cs z g = (z, g)
+good-on (range g i t) h s cs z u = (z, u)
+good-on (roots g i t) h s cs z u = (z, u)
+good-on (within a b) h s cs z g = (z, g)
+good-on (apart a b) h s cs z g = (z, g)
+good-on (count a p q) h s cs z g = (z, g)
+good-on (row a) h s cs z g = (z, g)
+
 -- after the head: records, and the plan that their calls leave
 record History (s : State SheetRule) (w : Walk) : Type 0 where
   pub rest : List Rec
   pub read : recordsOf w ≡ Ok rest
+  pub good : Unrefused (callsOf rest) s
   pub plan : closing s w ≡ after sheet-fault sheet-run (callsOf rest) s
 
 history-goes : (s : State SheetRule) (u : Result (Option (Rec × ℕ)) ℕ) (at : ℕ) (rest : ℕ → Walk) → ((p : Rec × ℕ) → u ≡ Ok (Some p) → headed (p .0) ≡ false) → ((t : State SheetRule) (i : ℕ) → firstFault t (rest i) ≡ None → History t (rest i)) → firstFault s (goes u at rest) ≡ None → History s (goes u at rest)
 unfolding closing
-history-goes s (Ok None) at rest h ih z = record { rest = []; read = refl; plan = refl }
+history-goes s (Ok None) at rest h ih z = record { rest = []; read = refl; good = tt; plan = refl }
 history-goes s (Ok (Some p)) at rest h ih z =
     let t = taken (actOf (p .0)) s in
-    let y = ih t (at + p .1) (none-on s at (p .0) (rest (at + p .1)) z .1) in
-    record { rest = p .0 ∷ y .rest; read = ap (before (p .0)) (y .read); plan = y .plan ∙ call-on (p .0) (h p refl) s (callsOf (y .rest)) }
+    let n = none-on s at (p .0) (rest (at + p .1)) z in
+    let y = ih t (at + p .1) (n .1) in
+    record {
+      rest = p .0 ∷ y .rest;
+      read = ap (before (p .0)) (y .read);
+      good = good-on (p .0) (h p refl) s (callsOf (y .rest)) (n .0) (y .good);
+      plan = y .plan ∙ call-on (p .0) (h p refl) s (callsOf (y .rest));
+    }
 history-goes s (Err x) at rest h ih z = absurd (none-stop s x at z)
 
 history-from : (n : ℕ) (file : List ℕ) (at : ℕ) (s : State SheetRule) → firstFault s (walkFrom n file at true) ≡ None → History s (walkFrom n file at true)
@@ -168,13 +189,16 @@ record Begun (places : ℕ) (w : Walk) (z : State SheetRule) : Type 0 where
   pub kinds : ℕ
   pub rest : List Rec
   pub read : recordsOf w ≡ Ok (head n m k kinds ∷ rest)
+  pub begins : refusal (new-causes n m k kinds) ≡ 0
+  pub unrefused : Unrefused (callsOf rest) (draft (boardOf n m k kinds) places (full (boardOf n m k kinds)))
   pub plan : z ≡ after sheet-fault sheet-run (callsOf rest) (draft (boardOf n m k kinds) places (full (boardOf n m k kinds)))
 
 begun-head : (s : State SheetRule) (n m k w at : ℕ) (v : Walk) → ((t : State SheetRule) → firstFault t v ≡ None → History t v) → firstFault s (step at (head n m k w) v) ≡ None → Begun (s .places) (step at (head n m k w) v) (closing s (step at (head n m k w) v))
-unfolding taken closing
+unfolding verdict taken closing
 begun-head s n m k w at v ih z =
-    let y = ih (taken (actOf (head n m k w)) s) (none-on s at (head n m k w) v z .1) in
-    record { n = n; m = m; k = k; kinds = w; rest = y .rest; read = ap (before (head n m k w)) (y .read); plan = y .plan }
+    let q = none-on s at (head n m k w) v z in
+    let y = ih (taken (actOf (head n m k w)) s) (q .1) in
+    record { n = n; m = m; k = k; kinds = w; rest = y .rest; read = ap (before (head n m k w)) (y .read); begins = q .0; unrefused = y .good; plan = y .plan }
 
 begun-goes : (s : State SheetRule) (u : Result (Option (Rec × ℕ)) ℕ) (at : ℕ) (rest : ℕ → Walk) → (u ≡ Ok None → ⊥) → ((p : Rec × ℕ) → u ≡ Ok (Some p) → headed (p .0) ≡ true) → ((t : State SheetRule) (i : ℕ) → firstFault t (rest i) ≡ None → History t (rest i)) → firstFault s (goes u at rest) ≡ None → Begun (s .places) (goes u at rest) (closing s (goes u at rest))
 begun-goes s (Ok None) at rest n h ih z = absurd (n refl)
@@ -195,8 +219,22 @@ loaded file s o z =
     record {
       n = y .n; m = y .m; k = y .k; kinds = y .kinds; rest = y .rest;
       read = cond-true (opens file) (readOn file 1 false) (Err (10, 0)) o ∙ read-walk file 1 false ∙ ap recordsOf e ∙ y .read;
+      begins = y .begins;
+      unrefused = y .unrefused;
       plan = ap (closing s) e ∙ y .plan;
     }
+
+-- an accepted file has one plan
+same-records : {n m k w n′ m′ k′ w′ : ℕ} {rs rs′ : List Rec} (o : Result (List Rec) (ℕ × ℕ)) → o ≡ Ok (head n m k w ∷ rs) → o ≡ Ok (head n′ m′ k′ w′ ∷ rs′) → (places : ℕ) →
+    after sheet-fault sheet-run (callsOf rs) (draft (boardOf n m k w) places (full (boardOf n m k w))) ≡ after sheet-fault sheet-run (callsOf rs′) (draft (boardOf n′ m′ k′ w′) places (full (boardOf n′ m′ k′ w′)))
+same-records o e f places = cc
+
+pub one-plan : (file : List ℕ) (places : ℕ) (s : State SheetRule) → loadFault file places ≡ None → Loaded file places s → s ≡ loadPlan file places
+unfolding loadFault loadPlan
+one-plan file places s z l =
+    let o = none-of (opens file) (firstFault (blank places) (walkOn file 1 false)) (10, 0) z in
+    let k = loaded file (blank places) (o .0) (o .1) in
+    l .plan ∙ same-records (readAll file) (l .read) (k .read) places ∙ sym (k .plan)
 
 -- what was entered after a check is an accepted file
 pub loads : (file : List ℕ) (s t : State SheetRule) (x : Reader) → opens file ≡ true → walksOn x ≡ walkOn file 1 false → loadFault file (s .places) ≡ None

@@ -1,4 +1,5 @@
 -- What each record asks of a planner, what the planner answers, and the plan after it. Assumes nothing.
+use mathlib.Core.Path.{_≡_}
 use mathlib.Core.List.{List, [], _∷_, _++_}
 use Prim.Native.Nat.{ℕ}
 use lib.Dec.{leb}
@@ -53,6 +54,11 @@ calls (act.Limit i x) = enter (entries.limit i x) ∷ []
 calls (act.Claim j x) = enter (entries.claim j x) ∷ []
 calls (act.Bar j x) = enter (entries.bar j x) ∷ []
 calls (act.Post r) = post r ∷ []
+
+-- none of the calls is refused
+abbrev pub Unrefused : List (Call SheetRule) → State SheetRule → Type 0
+Unrefused [] s = Unit {0}
+Unrefused (c ∷ cs) s = (answer sheet-fault sheet-run c s ≡ 0) × Unrefused cs (does sheet-fault sheet-run c s)
 
 -- the calls of records, in their order
 abbrev pub callsOf : List Rec → List (Call SheetRule)

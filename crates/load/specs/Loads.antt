@@ -12,10 +12,12 @@ use Rattle.std.specs.declared.option.Option.{Option}
 use Rattle.std.specs.declared.option.Option.the-variants.{Some, None}
 use Rattle.model.specs.Board.{boardOf}
 use Rattle.model.specs.Box.{full}
-use Rattle.model.specs.Calls.{State, draft, after}
+use Rattle.model.specs.Refusals.{refusal}
+use Rattle.model.specs.Calls.{State, draft, new-causes, settle, does, after}
 use Rattle.board.specs.Model.{board}
 use Rattle.plan.specs.declared.draft.Draft.{Draft}
 use Rattle.plan.specs.States.{state}
+use Rattle.text.specs.Lines.{listing, refusedLine}
 use Rattle.kinds.specs.declared.SheetRule.{SheetRule}
 use Rattle.kinds.specs.SheetRules.{sheet-fault, sheet-run}
 use Rattle.sheet.specs.Layout.{Rec, head}
@@ -23,7 +25,7 @@ use Rattle.sheet.specs.Steps.{opens}
 use Rattle.sheet.specs.Files.{readAll}
 use Rattle.load.specs.declared.check.Sketch.{Sketch}
 use Rattle.load.specs.declared.load.LoadFault.{LoadFault}
-use Rattle.load.specs.Acts.{actOf, verdict, taken, callsOf}
+use Rattle.load.specs.Acts.{actOf, verdict, taken, callsOf, Unrefused}
 use Rattle.load.specs.Walks.{Walk, end, stop, step, walkOn}
 
 -- the first fault of a walk, from a plan on: the reader's, or what the planner answers to a record, with the record's position
@@ -54,7 +56,23 @@ pub record Loaded (file : List ℕ) (places : ℕ) (s : State SheetRule) : Type 
   pub kinds : ℕ
   pub rest : List Rec
   pub read : readAll file ≡ Ok (head n m k kinds ∷ rest)
+  -- neither the head nor a call is refused
+  pub begins : refusal (new-causes n m k kinds) ≡ 0
+  pub unrefused : Unrefused (callsOf rest) (draft (boardOf n m k kinds) places (full (boardOf n m k kinds)))
   pub plan : s ≡ after sheet-fault sheet-run (callsOf rest) (draft (boardOf n m k kinds) places (full (boardOf n m k kinds)))
+
+-- the plan of a file that is accepted
+unfoldable pub loadPlan : List ℕ → ℕ → State SheetRule
+loadPlan file places = closing (blank places) (walkOn file 1 false)
+
+-- the listing of a plan, or the line of a refusal
+unfoldable pub textOf : State SheetRule → Option (ℕ × ℕ) → List ℕ
+textOf s None = listing (s .board) (s .box)
+textOf s (Some f) = refusedLine (f .0) (f .1)
+
+-- what is printed of a file: the listing of its plan after a settle, or the line of the refusal
+abbrev pub sheetText : List ℕ → ℕ → List ℕ
+sheetText file places = textOf (does sheet-fault sheet-run settle (loadPlan file places)) (loadFault file places)
 
 -- an answer of the code, as a number and a position
 abbrev pub faultOf : {X : Type 0} → Result X LoadFault → Option (ℕ × ℕ)

@@ -2,4 +2,5 @@
 mod act;
 mod check;
 mod enter;
+pub mod job;
 pub mod load;
