@@ -150,6 +150,13 @@ impl<'a, R: Rule> Draft<'a, R> {
         }
     }
 
+    // How many places the table has.
+    pub fn places(&self) -> usize
+        ensures { λ r. ⌜ r ≡ length (now (now (self .entry) .places)) ⌝ }
+    {
+        self.places.len()
+    }
+
     // Whether there is a place for one more rule.
     fn room(&self) -> Result<(), Refusal>
         ensures { λ r. ⌜ outcome r ≡ cond (no-place (state (now (self .entry) .plan) (now (now (self .entry) .places)) (now (self .entry) .count) false)) 8 0 ⌝ }

@@ -17,7 +17,7 @@ use Rattle.board.specs.declared.refusal.Refusal.{Refusal}
 use Rattle.board.specs.declared.domains.Domains.{Domains}
 use Rattle.board.specs.declared.refusal.Refusal.the-variants as re
 
-some-number : (e : Refusal) → number e ≡ 0 → ⊥
+pub some-number : (e : Refusal) → number e ≡ 0 → ⊥
 some-number re.Board z = omega arith
 some-number re.Sensor z = omega arith
 some-number re.Set z = omega arith

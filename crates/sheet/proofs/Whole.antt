@@ -87,7 +87,7 @@ follow-same (Ok (Some p)) at f g h = ap (before (p .0)) (h p refl)
 follow-same (Err e) at f g h = refl
 
 -- a step leaves less
-shorter : (file : List ℕ) (at : ℕ) (begun : Bool) (p : Rec × ℕ) → turn begun (drop at file) ≡ Ok (Some p) → length (drop (at + p .1) file) < length (drop at file)
+pub shorter : (file : List ℕ) (at : ℕ) (begun : Bool) (p : Rec × ℕ) → turn begun (drop at file) ≡ Ok (Some p) → length (drop (at + p .1) file) < length (drop at file)
 shorter file at begun p h =
     let f = found (drop at file) (p .0) (p .1) (turn-some begun (drop at file) p h .0) in
     omega (arith, f .some, f .room, f .size, length-drop at file, length-drop (at + p .1) file)

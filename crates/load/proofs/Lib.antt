@@ -1,0 +1,4 @@
+pub mod Walking
+pub mod Standing
+pub mod Faults
+pub mod Texts

@@ -1,0 +1,6 @@
+//! Loads a sheet file into a draft.
+mod act;
+mod check;
+mod enter;
+pub mod job;
+pub mod load;
