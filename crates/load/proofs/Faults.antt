@@ -215,9 +215,13 @@ pub loaded : (file : List ℕ) (s : State SheetRule) → opens file ≡ true →
 loaded file s o z =
     let e = steps file 1 false in
     let y = begun-goes s (turn false (drop 1 file)) 1 (λ next. walkOn file next true)
-        (λ h. never (turn-none false (drop 1 file) h .1)) (λ p h. turn-some false (drop 1 file) p h .1) (λ t i. history file i t) (subst (λ (w : Walk). firstFault s w ≡ None) e z) in
+    (λ h. never (turn-none false (drop 1 file) h .1)) (λ p h. turn-some false (drop 1 file) p h .1) (λ t i. history file i t) (subst (λ (w : Walk). firstFault s w ≡ None) e z) in
     record {
-      n = y .n; m = y .m; k = y .k; kinds = y .kinds; rest = y .rest;
+      n = y .n;
+      m = y .m;
+      k = y .k;
+      kinds = y .kinds;
+      rest = y .rest;
       read = cond-true (opens file) (readOn file 1 false) (Err (10, 0)) o ∙ read-walk file 1 false ∙ ap recordsOf e ∙ y .read;
       begins = y .begins;
       unrefused = y .unrefused;
@@ -282,3 +286,10 @@ module _ (s : State SheetRule) (x y : Reader) (m : Moved x y) where
 
   pub closes-stop : (f : ℕ × ℕ) → Err f ≡ told (x .at) (turned x) → closing s (walksOn x) ≡ s
   closes-stop f v = ap (closing s) (walked x y (Err f) v m) ∙ closing-stop s (f .0) (f .1)
+
+-- an accepted file, loaded
+pub accepted : (file : List ℕ) (places : ℕ) → loadFault file places ≡ None → Loaded file places (loadPlan file places)
+unfolding loadFault loadPlan
+accepted file places z =
+    let o = none-of (opens file) (firstFault (blank places) (walkOn file 1 false)) (10, 0) z in
+    loaded file (blank places) (o .0) (o .1)

@@ -73,7 +73,7 @@ module _ {R : Type 0} (fault : Board → R → ℕ) (run : Board → R → Box �
     λ k h l. w .answered k (omega arith) l,
   )
 
-  after-places : (cs : List (Call R)) (s : State R) → after fault run cs s .places ≡ s .places
+  pub after-places : (cs : List (Call R)) (s : State R) → after fault run cs s .places ≡ s .places
   after-places [] s = refl
   after-places (enter e ∷ cs) s = after-places cs (does fault run (enter e) s)
   after-places (post q ∷ cs) s = after-places cs (does fault run (post q) s)

@@ -1,1 +1,2 @@
 pub mod Supporting
+pub mod Sheeted

@@ -1,1 +1,2 @@
 pub mod Support
+pub mod Sheets

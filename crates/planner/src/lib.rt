@@ -1,1 +1,2 @@
 pub mod rest;
+pub mod sheet;

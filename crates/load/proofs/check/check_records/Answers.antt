@@ -51,16 +51,17 @@ loop-next-again c =
     let v = ap (λ (o : Option Record). Ok (sheet.meantIf o)) (sym (c .in-Some .is)) ∙ e .value in
     let t = c .in-Ok-take .ensures tt in
     let r = sheet.meant (c .in-Some .one) in
-    let a : c .act-of .result ≡ actOf r = c .act-of .ensures in
-    (stays-in x y (e .moved) (c .loop-next .inv .0),
-    λ s h.
-    let g = c .loop-next .inv .1 s h in
-    let z : verdict (actOf r) (g .plan) ≡ 0 = ap (λ (b : Act). verdict b (g .plan)) (sym a) ∙ sym (t .answer (g .plan) (g .stands)) in
-    record {
-      plan = taken (c .act-of .result) (g .plan);
-      stands = t .after (g .plan) (g .stands);
-      same = g .same ∙ here-on (g .plan) x y (e .moved) r v z ∙ ap (λ (b : Act). firstFault (taken b (g .plan)) (walksOn y)) (sym a);
-    })
+    let a : c .act-of .result ≡ actOf r = c .act-of .ensures in (
+      stays-in x y (e .moved) (c .loop-next .inv .0),
+      λ s h.
+          let g = c .loop-next .inv .1 s h in
+          let z : verdict (actOf r) (g .plan) ≡ 0 = ap (λ (b : Act). verdict b (g .plan)) (sym a) ∙ sym (t .answer (g .plan) (g .stands)) in
+          record {
+            plan = taken (c .act-of .result) (g .plan);
+            stands = t .after (g .plan) (g .stands);
+            same = g .same ∙ here-on (g .plan) x y (e .moved) r v z ∙ ap (λ (b : Act). firstFault (taken b (g .plan)) (walksOn y)) (sym a);
+          },
+    )
 
 pub returns-in-Err-take : need.returns-in-Err-take
 returns-in-Err-take c = λ s h.

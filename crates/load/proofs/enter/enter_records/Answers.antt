@@ -21,12 +21,13 @@ loop-next-again c =
     let e = c .in-Ok .ensures tt in
     let v = ap (λ (o : Option Record). Ok (sheet.meantIf o)) (sym (c .in-Some .is)) ∙ e .value in
     let r = sheet.meant (c .in-Some .one) in
-    let a : c .act-of .result ≡ actOf r = c .act-of .ensures in
-    (c .enter .ensures .lent ∙ c .loop-next .inv .0,
-    λ z.
-    let i = c .loop-next .inv .1 z in
-    let k = enters s x y (e .moved) r t v (i .0) (λ q. c .enter .ensures .plan (ap (λ (b : Act). verdict b s) a ∙ q) ∙ ap (λ (b : Act). taken b s) a) in
-    (k .0, i .1 ∙ k .1))
+    let a : c .act-of .result ≡ actOf r = c .act-of .ensures in (
+      c .enter .ensures .lent ∙ c .loop-next .inv .0,
+      λ z.
+          let i = c .loop-next .inv .1 z in
+          let k = enters s x y (e .moved) r t v (i .0) (λ q. c .enter .ensures .plan (ap (λ (b : Act). verdict b s) a ∙ q) ∙ ap (λ (b : Act). taken b s) a) in
+          (k .0, i .1 ∙ k .1),
+    )
 
 pub returns-in-rest-next : need.returns-in-rest-next
 returns-in-rest-next c =

@@ -15,7 +15,7 @@ returns-in-Ok c =
     let n = c .settle .result in
     let e = c .in-Ok .ensures tt in
     let t = text-listing (c .args .file .now) (length (d .places .now)) (length (c .args .places .now)) (stateOf (c .load .last .draft)) (state (n .plan) (n .places .now) (n .count) true)
-        (ap length (c .begin-draft .ensures .places)) (e .answer) (e .accepted refl) (c .settle .ensures .plan) in
+    (ap length (c .begin-draft .ensures .places)) (e .answer) (e .accepted refl) (c .settle .ensures .plan) in
     subst (λ (text : List ℕ). Printed text (c .listing .result) (c .args .out .now) (c .listing .last .out)) t (c .listing .ensures)
 
 pub returns-in-Err : need.returns-in-Err
