@@ -10,11 +10,11 @@ use Rattle.std.proofs.shelf.Tests.{both-ways, ltb-true, eqb-true, and-parts, ca
 use Rattle.masks.specs.Masks.{has, within}
 use Rattle.masks.proofs.Masks.{has-and, has-zero}
 use Rattle.model.specs.Board.{Board}
-use Rattle.model.specs.Box.{slotted, Box, Kept, cand, dead, hi, lo, uses}
+use Rattle.model.specs.Box.{Box, Kept, cand, dead, hi, lo, slotted, uses}
 use Rattle.model.specs.Layout.{slotOf}
 use Rattle.model.specs.Tight.{Supported}
 use Rattle.model.proofs.Boxes.{index-below}
-use Rattle.board.proofs.Shapes.{some, zeros}
+use Rattle.board.proofs.Shapes.{zeros}
 use Rattle.covering.specs.Covering.{candidate}
 use Rattle.range.specs.Judged.{Looked}
 use Rattle.range.specs.Ranges.{ranged}

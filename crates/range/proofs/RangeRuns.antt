@@ -16,12 +16,11 @@ use Rattle.model.specs.Board.{Board, room}
 use Rattle.model.specs.Box.{Box, Choice, In, Kept, Live, Narrower, cand, hi, lo, offers, omitted, slotted, taken}
 use Rattle.model.specs.Entries.{limit, narrow}
 use Rattle.model.specs.Layout.{Layout, On}
-use Rattle.model.specs.Tight.{Supported, keep, tight}
+use Rattle.model.specs.Tight.{Supported, tight}
 use Rattle.model.proofs.Boxes.{choice-live, dead-choice, index-below, live-true, mem-lay, space}
 use Rattle.model.proofs.Entries.{entry-narrows}
 use Rattle.model.proofs.Narrowing.{tight-is}
 use Rattle.model.proofs.Witness.{covers}
-use Rattle.board.proofs.Shapes.{some}
 use Rattle.range.specs.Entered.{Entered}
 use Rattle.range.specs.Judged.{Judged}
 use Rattle.range.specs.Ranges.{ranged}

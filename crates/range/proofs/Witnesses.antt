@@ -1,5 +1,4 @@
 -- Supports of Range made from coverings. Assumes nothing.
--- ---- the slot that a covering gives sensor k, else d; p says which slots below n are covered
 use mathlib.Core.Path.{_≡_, refl, sym, ap, _∙_, subst}
 use mathlib.Core.Bool.{Bool, true, false, not, _&&_, cond}
 use mathlib.Core.List.{List, []}
@@ -21,7 +20,6 @@ use Rattle.model.specs.Tight.{Supported}
 use Rattle.model.proofs.Boxes.{lo-below, made}
 use Rattle.model.proofs.Lists.{tab-at}
 use Rattle.model.proofs.Witness.{Fills, Picks, hi-fills, lo-fills, put, put-fills, put-other, put-picks, put-same, set-made, slot-made, support}
-use Rattle.board.proofs.Shapes.{some}
 use Rattle.covering.specs.Covering.{Avoidable, Covering, candidate}
 use Rattle.covering.proofs.Singles.{drop-apart, drop-gone, drop-keeps, drop-only}
 use Rattle.range.specs.Judged.{Loose, Tied}
@@ -31,6 +29,7 @@ use Rattle.range.proofs.Fitting.{Fit, t-room, two}
 use Rattle.range.proofs.Images.{Ranged, image-into, image-onto, mask-in, mask-of, maskOf, ranged-from}
 use Rattle.range.proofs.Supports.{able-low, lower-able}
 
+-- the slot that a covering gives sensor k, else d; p says which slots below n are covered
 pub given : (ℕ → Bool) → (ℕ → ℕ) → ℕ → ℕ → ℕ → ℕ
 given p on k d zero = d
 given p on k d (suc n) = cond (p n && eqb (on n) k) n (given p on k d n)

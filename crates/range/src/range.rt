@@ -56,7 +56,13 @@ pub impl Rule for Range as RangeRule {
     }
 }
 
-// The tight box: only where the sensors of g that may be in s and have a candidate in hi t are enough for lo s and lo t.
+// Reads all that it needs, then writes. The able sensors are those of g and hi s with a candidate in hi t; a covering gives each slot of
+// lo t an able sensor of its own that has the slot as a candidate. Where lo s has a sensor that is not able, or there is no covering, there is
+// no support. Else this is left:
+// - of candidates: to a sensor that every covering uses the slots that coverings give it; to another one in lo s those in hi t; to the rest all
+// - of hi s the able sensors, and lo s gains those that every covering uses
+// - of hi t lo t and the candidates of able sensors that some covering leaves out
+// - lo t gains the slots that are the only candidate in hi t of a sensor in lo s
 fn squeeze(d: &mut Domains, g: u64, s: u8, t: u8) -> bool
     requires { ⌜ refusal (range-causes (board (now d)) g s t) ≡ 0 ⌝ }
     ensures board { λ _. ⌜ board (now (d .exit)) ≡ board (now (d .entry)) ⌝ }
