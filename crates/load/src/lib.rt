@@ -2,5 +2,4 @@
 mod act;
 mod check;
 mod enter;
-pub mod job;
 pub mod load;

@@ -161,7 +161,7 @@ impl<'a, R: Rule> Draft<'a, R> {
     fn room(&self) -> Result<(), Refusal>
         ensures { λ r. ⌜ outcome r ≡ cond (no-place (state (now (self .entry) .plan) (now (now (self .entry) .places)) (now (self .entry) .count) false)) 8 0 ⌝ }
     {
-        if self.count >= MOST_PLACES.min(self.places.len()) {
+        if self.count >= MOST_PLACES.min(self.places()) {
             return Err(Refusal::Room);
         }
         Ok(())

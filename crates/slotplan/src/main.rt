@@ -3,7 +3,7 @@ ghost use Rattle.std.specs.Vec.{made};
 ghost use Prim.Native.Nat.{_≤_};
 ghost use lib.ListN.{length};
 use kinds::SheetRule;
-use load::job::job;
+use planner::sheet::print_sheet;
 use plan::draft::MOST_PLACES;
 use sets::row::Row;
 use sheet::LONGEST;
@@ -31,7 +31,7 @@ fn main(rt: LibcRuntime) -> Result<(), AnyError> {
     let len = read_up_to(&mut rt.stdin(), &mut file)?;
     let mut places = [SheetRule::Row(Row { a: 0 }); MOST_PLACES];
     let mut out = [0u8; LONGEST_LISTING];
-    let Ok(end) = job(&file[..len], &mut places, &mut out) else {
+    let Ok(end) = print_sheet(&file[..len], &mut places, &mut out) else {
         return Err("the output is too short".into());
     };
     rt.stdout().write_all(&out[..end])?;

@@ -1,0 +1,5 @@
+mod Quiet
+mod Accepted
+mod Chosen
+mod Counting
+mod Meant

@@ -1,0 +1,4 @@
+mod causes;
+pub mod groups;
+mod parts;
+pub mod values;
