@@ -22,6 +22,12 @@ module _ {R : Type 0} (xs : List R) (count most : ℕ) where
   pub full-no : count < min (length xs) most → length (take count xs) < min (length xs) most
   full-no h = omega (arith, length-take count xs)
 
+  pub free-some : count < min (length xs) most → min (length xs) most - count ≡ min (length xs) most - length (take count xs)
+  free-some h = omega (arith, length-take count xs)
+
+  pub free-none : min (length xs) most ≤ count → _≡_ {A = ℕ} 0 (min (length xs) most - length (take count xs))
+  free-none h = omega (arith, length-take count xs)
+
   pub not-full : leb (min (length xs) most) (length (take count xs)) ≡ false → count < length xs
   not-full e = omega (arith, length-take count xs, leb-false _ _ e)
 

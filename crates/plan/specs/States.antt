@@ -2,9 +2,10 @@
 use mathlib.Core.Path.{_≡_}
 use mathlib.Core.Bool.{Bool, true, false, cond}
 use mathlib.Core.List.{List, [], _∷_}
-use Prim.Native.Nat.{ℕ}
+use Prim.Native.Nat.{ℕ, _-_, min}
 use lib.Dec.{eqb}
 use lib.ListN.{length, take, set}
+use Rattle.model.specs.Capacity.{most-places}
 use Rattle.model.specs.Board.{Board}
 use Rattle.model.specs.Box.{Box}
 use Rattle.model.specs.Layout.{Layout}
@@ -19,3 +20,7 @@ state d places count done = record { board = board d; places = length places; bo
 -- what a post leaves in the places, those that hold no rule too
 abbrev pub postedPlaces : {R : Type 0} → ℕ → List R → ℕ → R → List R
 postedPlaces number places count r = cond (eqb number 0) (set places count r) places
+
+-- how many more rules the table has places for
+abbrev pub free-places : {R : Type 0} → State R → ℕ
+free-places s = min (s .places) most-places - length (s .rules)

@@ -4,7 +4,8 @@ ghost use mathlib.Core.List.{map};
 ghost use Prim.Native.Nat.{_<_};
 ghost use denote.Ref.{name};
 ghost use lib.ListN.{length, take, set};
-ghost use Rattle.model.specs.Board.{boardOf};
+ghost use Rattle.masks.specs.Masks.{has};
+ghost use Rattle.model.specs.Board.{boardOf, room as roomOf};
 ghost use Rattle.model.specs.Box.{full};
 ghost use Rattle.model.specs.Laws.{asked};
 ghost use Rattle.model.specs.Settled.{settled};
@@ -13,7 +14,7 @@ ghost use Rattle.model.specs.Entries.{limit as limiting, claim as claiming, bar
 ghost use Rattle.model.specs.Calls.{answer, does, draft as drafted, enter, post as posting, settle as settling, new-causes, no-place, Mixes-stand};
 ghost use Rattle.board.specs.Numbers.{outcome};
 ghost use Rattle.board.specs.Model.{board, model};
-ghost use Rattle.plan.specs.States.{state, postedPlaces};
+ghost use Rattle.plan.specs.States.{state, postedPlaces, free-places};
 ghost use Rattle.plan.specs.Trust.{Trusted};
 use crate::settled::Settled;
 use board::domains::Domains;
@@ -155,6 +156,51 @@ impl<'a, R: Rule> Draft<'a, R> {
         ensures { λ r. ⌜ r ≡ length (now (now (self .entry) .places)) ⌝ }
     {
         self.places.len()
+    }
+
+    // How many sensors, slots and sets the board has. The board may be read before the plan is settled; the box may not.
+    pub fn sensors(&self) -> u8
+        ensures { λ r. ⌜ r ≡ board (now (self .entry) .plan) .sensors ⌝ }
+    {
+        self.plan.sensors()
+    }
+
+    pub fn slots(&self) -> u8
+        ensures { λ r. ⌜ r ≡ board (now (self .entry) .plan) .slots ⌝ }
+    {
+        self.plan.slots()
+    }
+
+    pub fn sets(&self) -> u8
+        ensures { λ r. ⌜ r ≡ board (now (self .entry) .plan) .sets ⌝ }
+    {
+        self.plan.sets()
+    }
+
+    // Whether a set holds slots.
+    pub fn of_slots(&self, set: u8) -> bool
+        ensures { λ r. ⌜ r ≡ has (board (now (self .entry) .plan) .kinds) set ⌝ }
+    {
+        self.plan.of_slots(set)
+    }
+
+    // How many numbers there are of the kind that a set holds.
+    pub fn kind_size(&self, set: u8) -> u8
+        ensures { λ r. ⌜ r ≡ roomOf (board (now (self .entry) .plan)) set ⌝ }
+    {
+        self.plan.room(set)
+    }
+
+    // How many more rules the table has places for.
+    pub fn free(&self) -> usize
+        ensures { λ r. ⌜ r ≡ free-places (state (now (self .entry) .plan) (now (now (self .entry) .places)) (now (self .entry) .count) false) ⌝ }
+    {
+        let most = MOST_PLACES.min(self.places.len());
+        if self.count < most {
+            most - self.count
+        } else {
+            0
+        }
     }
 
     // Whether there is a place for one more rule.
