@@ -11,8 +11,6 @@ use lib.Bits.{bitOr}
 use Rattle.std.proofs.shelf.Tests.{both-ways, cases-eq, or-cases, or-left, or-right}
 use Rattle.masks.specs.Masks.{has, without}
 use Rattle.masks.proofs.Masks.{has-or, has-zero}
-use Rattle.model.specs.Box.{offers, taken}
-use Rattle.model.proofs.Witness.{covers}
 use Rattle.covering.specs.Covering.{Covering, Needed, candidate}
 use Rattle.covering.proofs.Singles.{drop-only, or-here, or-keeps, or-only}
 use Rattle.range.specs.Judged.{Freed, Held, Judged, Loose, Tied}

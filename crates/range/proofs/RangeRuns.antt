@@ -20,7 +20,6 @@ use Rattle.model.specs.Tight.{Supported, tight}
 use Rattle.model.proofs.Boxes.{choice-live, dead-choice, index-below, live-true, mem-lay, space}
 use Rattle.model.proofs.Entries.{entry-narrows}
 use Rattle.model.proofs.Narrowing.{tight-is}
-use Rattle.model.proofs.Witness.{covers}
 use Rattle.range.specs.Entered.{Entered}
 use Rattle.range.specs.Judged.{Judged}
 use Rattle.range.specs.Ranges.{ranged}

@@ -11,7 +11,6 @@ use lib.Count.{ones}
 use Rattle.std.proofs.shelf.Tests.{both-ways, cases-eq, or-cases, or-left, or-right}
 use Rattle.masks.specs.Masks.{has, without}
 use Rattle.masks.proofs.Masks.{has-or, has-zero}
-use Rattle.model.proofs.Lists.{all}
 use Rattle.covering.proofs.Singles.{drop-ones, drop-only, drop-other, or-here, or-keeps, or-only}
 use Rattle.range.specs.Survey.{Able, Sure, common}
 

@@ -27,7 +27,7 @@ use Rattle.range.specs.Ranges.{ranged, slots-of-all}
 use Rattle.range.specs.Survey.{Able, common}
 use Rattle.range.proofs.Fitting.{Fit, t-room, two}
 use Rattle.range.proofs.Images.{Ranged, image-into, image-onto, mask-in, mask-of, maskOf, ranged-from}
-use Rattle.range.proofs.Supports.{able-low, lower-able}
+use Rattle.range.proofs.Supports.{able-low}
 
 -- the slot that a covering gives sensor k, else d; p says which slots below n are covered
 pub given : (ℕ → Bool) → (ℕ → ℕ) → ℕ → ℕ → ℕ → ℕ
