@@ -2,6 +2,7 @@
 use board::refusal::Refusal;
 use kinds::AnySheetRule;
 use kinds::SheetRule;
+use named::values::all_different;
 use plan::draft::Draft;
 use roots::roots::Roots;
 use sets::count::Count;
@@ -25,11 +26,12 @@ fn main(rt: LibcRuntime) -> Result<(), AnyError> {
 }
 
 // Four sensors and five slots. Sets 0 and 1 hold sensors: those on the fast bus, and those that are sampled together. Set 2 holds slots: the fast ones.
+// Sets 3 and 4, of sensors and of slots, are helpers.
 fn describe(rt: &impl Print, draft: &mut Draft<'_, SheetRule>) -> Result<(), AnyError> {
     tell(
         rt,
-        "new 4 5 3, set 2 holds slots",
-        draft.new(4, 5, 3, 0b100),
+        "new 4 5 5, sets 2 and 4 hold slots",
+        draft.new(4, 5, 5, 0b10100),
     )?;
     tell(rt, "limit sensor 0 to 1 3", draft.limit(0, 0b01010))?;
     tell(rt, "limit sensor 1 to 2 4", draft.limit(1, 0b10100))?;
@@ -72,6 +74,11 @@ fn enter(rt: &impl Print, draft: &mut Draft<'_, SheetRule>) -> Result<(), AnyErr
         rt,
         "post row of set 1",
         draft.post(SheetRule::Row(Row { a: 1 })),
+    )?;
+    tell(
+        rt,
+        "all of 0 1 2 different, by sets 3 and 4",
+        all_different(draft, 0b0111, 3, 4),
     )
 }
 

@@ -1,19 +1,20 @@
 -- The loops of settling. Assumes nothing.
 use mathlib.Core.Path.{_≡_, refl, sym, ap, ap₂, _∙_, subst}
-use mathlib.Core.Bool.{Bool, true, false, _||_}
+use mathlib.Core.Bool.{Bool, true, false, not, _||_}
+use mathlib.Core.Logic.{inl}
 use mathlib.Core.List.{List, [], _∷_, _++_, map}
 use Prim.Native.Nat.{ℕ, _+_, _≤_, _<_}
 use lib.ListN.{length, getD, take}
 use lib.Seq.{take-all}
 use Rattle.std.specs.shelf.Lists.{All}
-use Rattle.std.proofs.shelf.Tests.{or-right}
+use Rattle.std.proofs.shelf.Tests.{not-true, or-right}
 use Rattle.std.proofs.shelf.Lists.{map-more}
 use Rattle.model.specs.Board.{Board}
-use Rattle.model.specs.Box.{Box, Inside, Kept, choice, size}
+use Rattle.model.specs.Box.{Box, Inside, Kept, choice, live, size}
 use Rattle.model.specs.Laws.{Lawful, Narrows, asked}
 use Rattle.model.specs.Layout.{Layout}
 use Rattle.model.specs.Settled.{Progress, round, settled}
-use Rattle.model.proofs.Asked.{all-asked}
+use Rattle.model.proofs.Asked.{all-asked, asked-narrows}
 use Rattle.model.proofs.Narrowing.{progress-join, progress-none}
 use Rattle.model.proofs.Order.{Fewer, ordered}
 use Rattle.model.proofs.Rounds.{Ordered, Runs, round-good, round-inside, round-keeps, round-still}
@@ -26,6 +27,14 @@ round-push : {B : Type 0} (rs : List (B → B)) (r : B → B) (b : B) → round 
 unfolding round
 round-push [] r b = refl
 round-push (q ∷ rs) r b = round-push rs r (q b)
+
+-- ---- one rule
+
+pub dead-rests : {R : Type 0} {fault : Board → R → ℕ} {holds : Board → R → Layout → Bool} {run : Board → R → Box → Box} → Lawful fault holds run
+    → (r : R) (d : Domains) → not (live (board d) (model d)) ≡ true → model d ≡ asked fault run (board d) r (model d)
+dead-rests lawful r d e =
+    let n = asked-narrows lawful (board d) (some d) r in
+    ordering (board d) (some d) .one (model d) _ (is-kept d) (n .kept (model d) (is-kept d)) (inl (not-true _ e)) (n .shrinks (model d) (is-kept d))
 
 -- ---- one round
 

@@ -34,12 +34,15 @@ fn round<R: Rule>(rules: &[R], d: &mut Domains) -> bool
     changed
 }
 
-// One rule, if it fits.
+// One rule, if it fits. A dead box has nothing to lose.
 fn step<R: Rule>(rule: &R, d: &mut Domains) -> bool
     ensures board { λ _. ⌜ board (now (d .exit)) ≡ board (now (d .entry)) ⌝ }
     ensures model { λ _. ⌜ model (now (d .exit)) ≡ asked fault run (board (now (d .entry))) (now (rule .entry)) (model (now (d .entry))) ⌝ }
     ensures moved { λ r. ⌜ Progress (board (now (d .entry))) r (model (now (d .entry))) (model (now (d .exit))) ⌝ }
 {
+    if d.is_dead() {
+        return false;
+    }
     match rule.fit(d) {
         Ok(()) => rule.narrow(d),
         Err(_) => false,

@@ -1,0 +1,124 @@
+// Times the planner against `reference.rs`, after checking that both give the same; and compares it with plain enumeration.
+//   bench agree | speed | compare [bug]
+mod compare;
+mod job;
+mod jobs;
+mod reference;
+
+use job::{Random, Step, planner_jobs, planner_listing, planner_settles};
+use reference::{reference_jobs, reference_listing, reference_settles};
+use std::time::Instant;
+
+fn main() {
+    let args: Vec<String> = std::env::args().skip(1).collect();
+    let bug = args.iter().any(|a| a == "bug");
+    let ok = match args.first().map(String::as_str) {
+        Some("agree") => agree(),
+        Some("speed") => speed(),
+        Some("search") => search(),
+        Some("one") => one(&args[1]),
+        Some("compare") => compare::all(bug),
+        _ => {
+            eprintln!("bench agree | speed | search | one NAME | compare [bug]");
+            false
+        }
+    };
+    std::process::exit(if ok { 0 } else { 1 });
+}
+
+fn agree() -> bool {
+    let mut r = Random(0x1234_5678_9ABC_DEF1);
+    let mut total = 0;
+    let mut dead = 0;
+    let mut refused = 0;
+    let mut differ = 0;
+    let mut look = |job: &[Step], name: &str| {
+        let ours = planner_listing(job);
+        let theirs = reference_listing(job);
+        total += 1;
+        dead += (ours.1 == "dead end\n") as u32;
+        refused += ours.0.iter().filter(|a| **a != 0).count();
+        if ours != theirs {
+            differ += 1;
+            if differ <= 5 {
+                println!("DIFFERENT {name}: {job:?}\n-- planner {:?}\n{}-- reference {:?}\n{}", ours.0, ours.1, theirs.0, theirs.1);
+            }
+        }
+    };
+    for i in 0..40_000 {
+        look(&jobs::random(&mut r, if i % 4 == 0 { 64 } else { 2 + (i % 7) as u8 }), "random");
+    }
+    for (name, job) in jobs::timed() {
+        look(&job, name);
+    }
+    println!("same listing and same answers: {total} jobs, {dead} of them dead ends, {refused} calls refused, {differ} differences");
+    differ == 0
+}
+
+// The time of one call in nanoseconds: the least of several samples.
+fn time(job: &[Step], f: fn(&[Step], u32) -> u64) -> f64 {
+    let mut times = 1;
+    loop {
+        let t = Instant::now();
+        std::hint::black_box(f(job, times));
+        if t.elapsed().as_micros() > 4000 {
+            break;
+        }
+        times *= 2;
+    }
+    let mut best = f64::MAX;
+    for _ in 0..15 {
+        let t = Instant::now();
+        std::hint::black_box(f(job, times));
+        best = best.min(t.elapsed().as_nanos() as f64 / times as f64);
+    }
+    best
+}
+
+fn speed() -> bool {
+    println!("{:<52} {:>10} {:>10} {:>6}   {:>10} {:>10} {:>6}", "nanoseconds", "settle", "reference", "ratio", "whole job", "reference", "ratio");
+    for (name, job) in jobs::timed() {
+        let a = time(&job, planner_settles);
+        let b = time(&job, reference_settles);
+        let c = time(&job, planner_jobs);
+        let d = time(&job, reference_jobs);
+        let dead = if planner_listing(&job).1 == "dead end\n" { "  (dead end)" } else { "" };
+        println!("{name:<52} {a:>10.0} {b:>10.0} {:>6.2}   {c:>10.0} {d:>10.0} {:>6.2}{dead}", a / b, c / d);
+    }
+    true
+}
+
+// Runs one job for a while, for a profile.
+fn one(name: &str) -> bool {
+    for (n, job) in jobs::timed() {
+        if n.contains(name) {
+            let t = Instant::now();
+            while t.elapsed().as_secs() < 3 {
+                std::hint::black_box(planner_settles(&job, 1000));
+            }
+            println!("{n}");
+        }
+    }
+    true
+}
+
+// Looks at random for slow Range jobs.
+fn search() -> bool {
+    let mut r = Random(99);
+    let mut worst = 0.0;
+    for _ in 0..10_000 {
+        let job = jobs::random_range(&mut r);
+        let t = Instant::now();
+        planner_settles(&job, 50);
+        if t.elapsed().as_nanos() as f64 / 50.0 > worst {
+            // again with care, since other load shows too
+            let [ns] = times(&job, [planner_settles]);
+            if ns > worst {
+                worst = ns;
+                let [theirs] = times(&job, [reference_settles]);
+                println!("{ns:.0} ns, reference {theirs:.0}: {}", jobs::describe(&job));
+            }
+        }
+    }
+    true
+}
