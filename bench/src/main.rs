@@ -55,35 +55,37 @@ fn agree() -> bool {
     differ == 0
 }
 
-// The time of one call in nanoseconds: the least of several samples.
-fn time(job: &[Step], f: fn(&[Step], u32) -> u64) -> f64 {
-    let mut times = 1;
-    loop {
+type Timed = fn(&[Step], u32) -> u64;
+
+// The time of one call of each in nanoseconds: the least of many samples, taken in turn, so that other load on the machine meets all alike.
+fn times<const N: usize>(job: &[Step], fs: [Timed; N]) -> [f64; N] {
+    let sample = |f: Timed, times: u32| {
         let t = Instant::now();
         std::hint::black_box(f(job, times));
-        if t.elapsed().as_micros() > 4000 {
-            break;
+        t.elapsed().as_nanos() as f64
+    };
+    let counts = fs.map(|f| {
+        let mut times = 1;
+        while sample(f, times) < 1e6 {
+            times *= 2;
         }
-        times *= 2;
-    }
-    let mut best = f64::MAX;
-    for _ in 0..15 {
-        let t = Instant::now();
-        std::hint::black_box(f(job, times));
-        best = best.min(t.elapsed().as_nanos() as f64 / times as f64);
+        times
+    });
+    let mut best = [f64::MAX; N];
+    for _ in 0..60 {
+        for i in 0..N {
+            best[i] = best[i].min(sample(fs[i], counts[i]) / counts[i] as f64);
+        }
     }
     best
 }
 
 fn speed() -> bool {
-    println!("{:<52} {:>10} {:>10} {:>6}   {:>10} {:>10} {:>6}", "nanoseconds", "settle", "reference", "ratio", "whole job", "reference", "ratio");
+    println!("{:<56} {:>8} {:>9} {:>5}   {:>9} {:>9} {:>5}", "nanoseconds", "settle", "reference", "ratio", "whole job", "reference", "ratio");
     for (name, job) in jobs::timed() {
-        let a = time(&job, planner_settles);
-        let b = time(&job, reference_settles);
-        let c = time(&job, planner_jobs);
-        let d = time(&job, reference_jobs);
+        let [a, b, c, d] = times(&job, [planner_settles, reference_settles, planner_jobs, reference_jobs]);
         let dead = if planner_listing(&job).1 == "dead end\n" { "  (dead end)" } else { "" };
-        println!("{name:<52} {a:>10.0} {b:>10.0} {:>6.2}   {c:>10.0} {d:>10.0} {:>6.2}{dead}", a / b, c / d);
+        println!("{name:<56} {a:>8.0} {b:>9.0} {:>5.2}   {c:>9.0} {d:>9.0} {:>5.2}{dead}", a / b, c / d);
     }
     true
 }

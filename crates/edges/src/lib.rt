@@ -1,5 +1,10 @@
 // The numbers at which an answer turns.
 #[cfg(test)]
+mod files;
+#[cfg(test)]
+mod parts;
+
+#[cfg(test)]
 mod tests {
     use board::refusal::Refusal;
     use board::refusal::RefusalDebug;

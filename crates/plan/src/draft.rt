@@ -30,7 +30,7 @@ pub const MOST_PLACES: usize = 256;
 // The word that says which sets hold slots.
 pub type KindWord = u32;
 
-// A plan that takes entries and rules. It cannot be read: it is settled first.
+// A plan that takes entries and rules. Its board may be read; what is left of it only after it is settled.
 #[derive(Drop)]
 pub struct Draft<'a, R> {
     pub(crate) plan: Domains,
