@@ -1,3 +1,5 @@
+#![tactic(auto)]
+
 pub mod domains;
 pub mod fresh;
 pub mod reads;

@@ -1,4 +1,6 @@
 //! The exercises of docs/COURSE.md: for each the bytes of its sheet and the listing.
+#![tactic(auto)]
+
 mod sheets;
 
 use anyhow::anyhow;

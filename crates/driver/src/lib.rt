@@ -1,4 +1,6 @@
 //! What a program in C or Rust links with to run the planner. The C header is include/slotplan.h.
+#![tactic(auto)]
+
 ghost use Rattle.std.specs.Prelude.{◌≡◌, ◌≤◌, length};
 ghost use Rattle.model.specs.Box.{cand};
 ghost use Rattle.text.specs.Lines.{longest_listing};

@@ -1,3 +1,5 @@
+#![tactic(auto)]
+
 // The numbers at which an answer turns.
 #[cfg(test)]
 mod files;

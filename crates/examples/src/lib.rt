@@ -1,3 +1,5 @@
+#![tactic(auto)]
+
 pub mod table;
 
 ghost use Rattle.examples.specs.Cases.{ExamplesStand};

@@ -1,4 +1,6 @@
 //! Every box of small boards: what the planner makes of it, beside a search over its layouts.
+#![tactic(auto)]
+
 mod compare;
 mod enumerate;
 mod laws;

@@ -1,3 +1,5 @@
+#![tactic(auto)]
+
 ghost use Rattle.kinds.specs.SheetRules.{sheet_fault, sheet_holds, sheet_run};
 ghost use Rattle.kinds.specs.SheetLaws.{sheet_lawful, sheet_restful};
 

@@ -1,4 +1,6 @@
 //! Loads a sheet file into a draft.
+#![tactic(auto)]
+
 mod act;
 mod check;
 mod enter;

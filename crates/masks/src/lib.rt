@@ -1,3 +1,5 @@
+#![tactic(auto)]
+
 ghost use Rattle.std.specs.Prelude.{◌≡◌, ◌^◌, ◌==◌, count_ones, nat_lt};
 ghost use Rattle.masks.specs.Masks.{Masks, has, without, within, numbers, lowest as least_of, past as past_of, stretch as stretch_of};
 

@@ -1,4 +1,6 @@
 //! Any mix of calls on a draft, played from a list.
+#![tactic(auto)]
+
 ghost use Rattle.std.specs.Prelude.{◌≡◌, ℕ, ◌<◌, false, List, ◌++◌, length};
 ghost use Rattle.model.specs.Calls.{Call, after};
 ghost use Rattle.board.specs.Numbers.{outcome};

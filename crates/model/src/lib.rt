@@ -1,3 +1,5 @@
+#![tactic(auto)]
+
 ghost use Rattle.model.specs.Laws.{TightStands, InsideStands};
 ghost use Rattle.model.specs.Settled.{SettlingStands};
 

@@ -1,3 +1,5 @@
+#![tactic(auto)]
+
 mod causes;
 pub mod groups;
 mod parts;

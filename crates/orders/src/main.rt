@@ -1,3 +1,5 @@
+#![tactic(auto)]
+
 // The same entries in several orders, with settles in between and refused calls among them: the listings are equal.
 use anyhow::anyhow;
 use kinds::SheetRule;

@@ -1,2 +1,4 @@
+#![tactic(auto)]
+
 pub mod draft;
 pub mod settled;

@@ -1,2 +1,4 @@
+#![tactic(auto)]
+
 pub mod rest;
 pub mod sheet;

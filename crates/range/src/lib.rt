@@ -1,3 +1,5 @@
+#![tactic(auto)]
+
 mod enter;
 mod judge;
 pub mod range;

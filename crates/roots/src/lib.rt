@@ -1,2 +1,4 @@
+#![tactic(auto)]
+
 pub mod implication;
 pub mod roots;

@@ -1,3 +1,5 @@
+#![tactic(auto)]
+
 ghost use Rattle.std.specs.Prelude.{◌≡◌, ℕ, Bool};
 ghost use Rattle.model.specs.Board.{Board};
 ghost use Rattle.model.specs.Layout.{Layout};

@@ -1,3 +1,5 @@
+#![tactic(auto)]
+
 // A small job from start to finish: a board is described, entries are made and rules posted, the plan is settled and listed.
 use anyhow::anyhow;
 use board::refusal::Refusal;

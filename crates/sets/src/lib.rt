@@ -1,3 +1,5 @@
+#![tactic(auto)]
+
 pub mod apart;
 mod bounds;
 pub mod count;

@@ -1,3 +1,5 @@
+#![tactic(auto)]
+
 ghost use Rattle.std.specs.Prelude.{◌≡◌, map};
 ghost use Rattle.model.specs.Laws.{asked};
 ghost use Rattle.model.specs.Settled.{Progress, round as once, settled};

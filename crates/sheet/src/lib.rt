@@ -1,4 +1,6 @@
 //! Reads and writes sheet files.
+#![tactic(auto)]
+
 ghost use Rattle.sheet.specs.Files.{Undone};
 ghost use Rattle.sheet.specs.Refusals.{Refusals, Writes};
 

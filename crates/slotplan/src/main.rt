@@ -1,4 +1,6 @@
 //! Reads a sheet on standard input and prints what is left open, or why the sheet is refused.
+#![tactic(auto)]
+
 ghost use Rattle.std.specs.Prelude.{◌≤◌, length, IfOk};
 
 use anyhow::anyhow;

@@ -1,3 +1,5 @@
+#![tactic(auto)]
+
 mod close;
 mod free;
 pub mod spares;

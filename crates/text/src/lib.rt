@@ -1,3 +1,5 @@
+#![tactic(auto)]
+
 pub mod listing;
 mod pieces;
 pub mod refused;

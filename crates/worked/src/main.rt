@@ -1,4 +1,6 @@
 //! The worked examples through the planner's own calls, and a sheet from its bytes to its listing.
+#![tactic(auto)]
+
 use anyhow::anyhow;
 use board::refusal::Refusal;
 use examples::table::{Example, SLOTS, table};

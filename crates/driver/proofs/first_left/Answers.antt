@@ -12,7 +12,7 @@ returns-in-Ok c =
     let d = c.begin-draft.result in
     let e = c.in-Ok.ensures in
     let size : length d.places.now ≡ most_places = ap length c.begin-draft.ensures.places in
-    c.first-of.ensures
+    c.first_of.ensures
     ∙ ap (λ (s : State SheetRule). cand s.box 0) c.settle.ensures.plan
     ∙ first-left c.args.file.now (length d.places.now) (state_of c.load.new.draft) size e.answer (e.accepted refl)
 

@@ -7,4 +7,4 @@ pub loop-time-init : goal.loop-time-init
 loop-time-init c = refl
 
 pub loop-time-preserved : goal.loop-time-preserved
-loop-time-preserved c = ap₂ bit_xor c.loop-time.invariant c.first-left-sum.ensures ∙ joined-more c.loop-time.-time _
+loop-time-preserved c = ap₂ bit_xor c.loop-time.invariant c.first_left-sum.ensures ∙ joined-more c.loop-time._time _

@@ -6,12 +6,12 @@ use Rattle.rule.proofs.Answers.{asked-err}
 use Rattle.settle.proofs.Rounds.{dead-rests}
 use Rattle.settle.proofs.step.Goals as goal
 
-pub returns-then-is-dead : goal.returns-then-is-dead
-returns-then-is-dead g c =
+pub returns-then-is_dead : goal.returns-then-is_dead
+returns-then-is_dead g c =
     let d = c.args.d.now in
     record {
       board = refl;
-      model = dead-rests g.met.R.Rule.lawful c.args.rule.now d (sym c.is-dead.ensures ∙ c.if-is-dead.true);
+      model = dead-rests g.met.R.Rule.lawful c.args.rule.now d (sym c.is_dead.ensures ∙ c.if-is_dead.true);
       moved = progress-none (board d) (some d) (model d);
     }
 

@@ -13,7 +13,7 @@ pub loop-i-init : goal.loop-i-init
 loop-i-init c = none _ most_sensors
 
 pub loop-i-preserved : goal.loop-i-preserved
-loop-i-preserved c = one_more _ most_sensors c.loop-i.i c.loop-i.cands _ (omega (arith, c.requires.0.1)) (all c.args.m _ c.requires.1.1 c.all-below-slots.ensures) c.loop-i.invariant
+loop-i-preserved c = one_more _ most_sensors c.loop-i.i c.loop-i.cands _ (omega (arith, c.requires.0.1)) (all c.args.m _ c.requires.1.1 c.all_below-slots.ensures) c.loop-i.invariant
 
 pub loop-j-init : goal.loop-j-init
 loop-j-init c =
@@ -23,15 +23,15 @@ loop-j-init c =
 pub loop-j-preserved : goal.loop-j-preserved
 loop-j-preserved c =
     let bd = board_of c.args.n c.args.m c.args.k c.args.kinds in
-    let size : (t : Bool) → cond t c.all-below-slots.result c.all-below-sensors.result ≡ 2 ^ cond t c.args.m c.args.n - 1 =
-    λ t. elim t as (λ b. cond b c.all-below-slots.result c.all-below-sensors.result ≡ 2 ^ cond b c.args.m c.args.n - 1) [
-      | true ↦ all c.args.m _ c.requires.1.1 c.all-below-slots.ensures
-      | false ↦ all c.args.n _ c.requires.0.1 c.all-below-sensors.ensures
+    let size : (t : Bool) → cond t c.all_below-slots.result c.all_below-sensors.result ≡ 2 ^ cond t c.args.m c.args.n - 1 =
+    λ t. elim t as (λ b. cond b c.all_below-slots.result c.all_below-sensors.result ≡ 2 ^ cond b c.args.m c.args.n - 1) [
+      | true ↦ all c.args.m _ c.requires.1.1 c.all_below-slots.ensures
+      | false ↦ all c.args.n _ c.requires.0.1 c.all_below-sensors.ensures
     ] in
-    (c.loop-j.invariant.0, one_more (λ j. 2 ^ room bd j - 1) most_sets c.loop-j.j c.loop-j.hi _ (omega (arith, c.requires.2.0)) (c.all-of.ensures ∙ size (has c.args.kinds c.loop-j.j)) c.loop-j.invariant.1)
+    (c.loop-j.invariant.0, one_more (λ j. 2 ^ room bd j - 1) most_sets c.loop-j.j c.loop-j.hi _ (omega (arith, c.requires.2.0)) (c.all_of.ensures ∙ size (has c.args.kinds c.loop-j.j)) c.loop-j.invariant.1)
 
-pub invariant-of-result : goal.invariant-of-result
-invariant-of-result c =
+pub invariant_of-result : goal.invariant_of-result
+invariant_of-result c =
     let bd = board_of c.args.n c.args.m c.args.k c.args.kinds in
     let e : c.loop-j.j ≡ c.args.k = search rules in
     let fh = subst (λ z. Filled (λ j. 2 ^ room bd j - 1) most_sets z c.loop-j.hi) e c.loop-j.invariant.1 in

@@ -55,11 +55,11 @@ returns-in-Err c =
     let h = c.loop-w.invariant in
     let s : Short (candidate c.args.cands.now) c.args.sensors c.args.claimed c.in-Err.group =
     under-short h.2 (search rules) c.in-Some.ensures.member
-    (tells c.args.cands.now c.args.sensors c.args.claimed _ _ (search rules) h.0 c.takers-of-takers.ensures) c.in-Err.ensures in
+    (tells c.args.cands.now c.args.sensors c.args.claimed _ _ (search rules) h.0 c.takers_of-takers.ensures) c.in-Err.ensures in
     (s, short-uncoverable s)
 
-pub invariant-of-result : goal.invariant-of-result
-invariant-of-result c =
+pub invariant_of-result : goal.invariant_of-result
+invariant_of-result c =
     let m = c.loop-w.invariant.2.matching in
     let sized : c.args.sensors < 2 ^ 64 = search rules in
     (m.noted, (m.owned, (m.returned, (m.bare, (m.marked, (c.loop-w.invariant.3, (subst (λ (x : ℕ). x < 2 ^ 64) (sym c.loop-w.invariant.1) sized, (m.long, tt))))))))
@@ -67,7 +67,7 @@ invariant-of-result c =
 pub returns : goal.returns
 returns c =
     let h = c.loop-w.invariant in
-    let z = c.in-default.ensures in
-    let t = tells c.args.cands.now c.args.sensors c.args.claimed _ _ (search rules) h.0 c.takers-of-takers.ensures in
+    let z = c.in_default.ensures in
+    let t = tells c.args.cands.now c.args.sensors c.args.claimed _ _ (search rules) h.0 c.takers_of-takers.ensures in
     let k = under-covering h.2 z h.1 t in
     record { among = h.1; slots = under_all z h.2; takers = t; covers = k.0; bare = k.1 }

@@ -26,7 +26,7 @@ search-requires c =
     let low = slot n c.args.i l c.if-u-eq-NONE.false in
     record {
       low = low;
-      owners = subst (λ (x : ℕ). Owners n.pairs.owner x (get_or n.pairs.owner c.args.i 0)) (sym (drop-low _ c.args.i l c.drop-one.ensures))
+      owners = subst (λ (x : ℕ). Owners n.pairs.owner x (get_or n.pairs.owner c.args.i 0)) (sym (drop-low _ c.args.i l c.drop_one.ensures))
           (owners-without (matching n) (sensors-low n) (claimed-low n (search rules)) l low);
     }
 
@@ -35,7 +35,7 @@ returns-in-Ok c can s k f =
     let n = c.args.notes.now in
     let l = c.if-i-ge-NONE.false in
     let low : n.pairs.claimed < 2 ^ 64 = search rules in
-    let led = subst (λ (x : ℕ). Led n.pairs.takers n.pairs.owner x (get_or n.pairs.owner c.args.i 0) c.search.new.from c.in-Ok.field-0) (drop-low _ c.args.i l c.drop-one.ensures) c.in-Ok.ensures in
+    let led = subst (λ (x : ℕ). Led n.pairs.takers n.pairs.owner x (get_or n.pairs.owner c.args.i 0) c.search.new.from c.in-Ok.field-0) (drop-low _ c.args.i l c.drop_one.ensures) c.in-Ok.ensures in
     at-notes (λ x y. Avoidable can x y c.args.i) can s k n f (λ o.
     led-avoidable (matching n) (sensors-low n) (claimed-low n low) l (slot n c.args.i l c.if-u-eq-NONE.false) o.takers led)
 
@@ -44,6 +44,6 @@ returns-in-Err c can s k f =
     let n = c.args.notes.now in
     let l = c.if-i-ge-NONE.false in
     let low : n.pairs.claimed < 2 ^ 64 = search rules in
-    let stuck = subst (λ (x : ℕ). Stuck n.pairs.takers n.pairs.owner x (get_or n.pairs.owner c.args.i 0) c.in-Err.group) (drop-low _ c.args.i l c.drop-one.ensures) c.in-Err.ensures in
+    let stuck = subst (λ (x : ℕ). Stuck n.pairs.takers n.pairs.owner x (get_or n.pairs.owner c.args.i 0) c.in-Err.group) (drop-low _ c.args.i l c.drop_one.ensures) c.in-Err.ensures in
     at-notes (λ x y. Needed can x y c.args.i c.in-Err.group) can s k n f (λ o.
     stuck-needed (matching n) (sensors-low n) (claimed-low n low) l (slot n c.args.i l c.if-u-eq-NONE.false) o.takers stuck)

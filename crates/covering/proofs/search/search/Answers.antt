@@ -4,7 +4,7 @@ use lib.Count.{ones}
 use Rattle.covering.proofs.Singles.{drop-ones, with-low, drop-low}
 use Rattle.covering.proofs.Hunts.{start, round-level, round-start, round-end, round-found, round-slot, round-seen, round_same}
 use Rattle.covering.proofs.search.search.Goals as goal
-use Rattle.covering.proofs.search.search.Goals.{in-default, in-Some+in-Some-split-by+then-v-eq-NONE}
+use Rattle.covering.proofs.search.search.Goals.{in_default, in-Some+in-Some-split_by+then-v-eq-NONE}
 
 pub search-init : goal.search-init
 search-init c =
@@ -12,38 +12,38 @@ search-init c =
     (start c.args.pairs.now.takers c.args.pairs.now.owner c.args.sensors c.args.w _ c.requires.low (search rules))
 
 pub loop-i-init : goal.loop-i-init
-loop-i-init c = (simp c.take-out-unseen.ensures (round-start c.in-Some.u c.search.invariant c.in-Some.ensures.member), refl)
+loop-i-init c = (simp c.take_out-unseen.ensures (round-start c.in-Some.u c.search.invariant c.in-Some.ensures.member), refl)
 
 pub loop-i-smaller : goal.loop-i-smaller
 loop-i-smaller c =
-    let p = c.in-Some-split-by.ensures in
-    let one = drop-ones c.in-Some-split-by.i c.loop-i.fresh p.member in
+    let p = c.in-Some-split_by.ensures in
+    let one = drop-ones c.in-Some-split_by.i c.loop-i.fresh p.member in
     simp p.others (omega arith)
 
 pub loop-i-preserved : goal.loop-i-preserved
 loop-i-preserved c =
     let r = c.loop-i.invariant.0 in
-    let p = c.in-Some-split-by.ensures in
+    let p = c.in-Some-split_by.ensures in
     let l = round-slot r p c.requires.owners c.if-v-eq-NONE.false in
-    simp (with-low _ _ l c.with-reached-in-Some-split-by.ensures, with-low _ _ l c.with-pending.ensures)
+    simp (with-low _ _ l c.with-reached-in-Some-split_by.ensures, with-low _ _ l c.with-pending.ensures)
     (round-seen r p c.requires.owners l, round_same r p c.requires.owners l ∙ c.loop-i.invariant.1)
 
 pub search-smaller : goal.search-smaller
 search-smaller c =
-    let u = c.take-out-unseen.result in
+    let u = c.take_out-unseen.result in
     let one = drop-ones c.in-Some.u c.loop-i.pending c.loop-i.invariant.0.at in
-    let none : ones (bit_or u c.loop-i.fresh) ≡ ones u = ap (λ (x : ℕ). ones (bit_or u x)) c.in-default-split-by.ensures ∙ ap ones (or_zero_r u) in
+    let none : ones (bit_or u c.loop-i.fresh) ≡ ones u = ap (λ (x : ℕ). ones (bit_or u x)) c.in_default-split_by.ensures ∙ ap ones (or_zero_r u) in
     let all : ones (bit_or u (bit_and (get_or c.args.pairs.now.takers c.in-Some.u 0) c.search.unseen)) ≡ ones c.search.unseen =
-    simp c.take-out-unseen.ensures (round-level c.search.unseen (get_or c.args.pairs.now.takers c.in-Some.u 0)) in
-    simp (drop-low _ c.in-Some.u c.in-Some.ensures.low c.drop-one-pending.ensures) (omega (arith, c.loop-i.invariant.1))
+    simp c.take_out-unseen.ensures (round-level c.search.unseen (get_or c.args.pairs.now.takers c.in-Some.u 0)) in
+    simp (drop-low _ c.in-Some.u c.in-Some.ensures.low c.drop_one-pending.ensures) (omega (arith, c.loop-i.invariant.1))
 
 pub search-preserved : goal.search-preserved
-search-preserved c = simp (drop-low _ c.in-Some.u c.in-Some.ensures.low c.drop-one-pending.ensures) (round-end c.loop-i.invariant.0 c.in-default-split-by.ensures)
+search-preserved c = simp (drop-low _ c.in-Some.u c.in-Some.ensures.low c.drop_one-pending.ensures) (round-end c.loop-i.invariant.0 c.in_default-split_by.ensures)
 
 pub returns-in-Some-free : goal.returns-in-Some-free
 returns-in-Some-free c = elim c.match-split.branch [
-  | in-default t ↦ (let z : ◌≡◌ {A = ℕ} 0 1 = cc (t.free-is, c.in-Some-free.is) in absurd (omega arith))
-  | in-Some+in-Some-split-by+then-v-eq-NONE t ↦
-      (let f : c.in-Some-free.i ≡ t.in-Some-split-by.i = cc (t.free-is, c.in-Some-free.is) in
-      simp (t.from-is, f) (round-found t.loop-i.invariant.0 t.in-Some-split-by.ensures t.if-v-eq-NONE.true))
+  | in_default t ↦ (let z : ◌≡◌ {A = ℕ} 0 1 = cc (t.free-is, c.in-Some-free.is) in absurd (omega arith))
+  | in-Some+in-Some-split_by+then-v-eq-NONE t ↦
+      (let f : c.in-Some-free.i ≡ t.in-Some-split_by.i = cc (t.free-is, c.in-Some-free.is) in
+      simp (t.from-is, f) (round-found t.loop-i.invariant.0 t.in-Some-split_by.ensures t.if-v-eq-NONE.true))
 ]

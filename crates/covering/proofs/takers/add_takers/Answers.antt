@@ -17,4 +17,4 @@ loop-v-preserved c =
     (added_more c.in-Some.v c.in-Some.ensures.low c.in-Some.ensures.member c.loop-v.invariant)
 
 pub returns : goal.returns
-returns c = added-all c.loop-v.left c.in-default.ensures c.loop-v.invariant
+returns c = added-all c.loop-v.left c.in_default.ensures c.loop-v.invariant

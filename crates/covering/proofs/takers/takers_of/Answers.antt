@@ -16,7 +16,7 @@ pub loop-i-preserved : goal.loop-i-preserved
 loop-i-preserved c =
     let who = c.single.ensures ∙ mod_low c.in-Some.i c.in-Some.ensures.low in
     simp c.in-Some.ensures.others
-    (turned_more c.in-Some.i c.in-Some.ensures.member (search rules) (λ v l. simp who at (c.add-takers.ensures v l)) c.loop-i.invariant)
+    (turned_more c.in-Some.i c.in-Some.ensures.member (search rules) (λ v l. simp who at (c.add_takers.ensures v l)) c.loop-i.invariant)
 
 pub returns : goal.returns
-returns c = turned-all c.loop-i.left c.in-default.ensures c.loop-i.invariant
+returns c = turned-all c.loop-i.left c.in_default.ensures c.loop-i.invariant

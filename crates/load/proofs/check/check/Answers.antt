@@ -6,8 +6,8 @@ use Rattle.load.proofs.Walking.{opened, opened_in}
 use Rattle.load.proofs.Standing.{some-fault}
 use Rattle.load.proofs.check.check.Goals as goal
 
-pub check-records-requires : goal.check-records-requires
-check-records-requires c =
+pub check_records-requires : goal.check_records-requires
+check_records-requires c =
     let e = c.in-Ok.ensures.value in
     opened_in c.args.file.now c.in-Ok.reader e.0 e.1 e.2
 
@@ -16,7 +16,7 @@ unfolding load_fault
 returns-in-Ok c =
     let e = c.in-Ok.ensures.value in
     let s = blank c.args.places in
-    c.check-records.ensures s c.begin.ensures ∙ ap (first_fault s) (opened c.args.file.now c.in-Ok.reader e.1 e.2 e.3) ∙ sym (cond-true _ _ _ e.0)
+    c.check_records.ensures s c.begin.ensures ∙ ap (first_fault s) (opened c.args.file.now c.in-Ok.reader e.1 e.2 e.3) ∙ sym (cond-true _ _ _ e.0)
 
 pub returns-in-Err : goal.returns-in-Err
 unfolding load_fault

@@ -16,7 +16,7 @@ loop-next-preserved c =
     let e = c.in-Ok.ensures in
     let v = ap (λ (o : Option Record). Ok (sheet.meant_if o)) (sym c.in-Some.is) ∙ e.value in
     let r = sheet.meant c.in-Some.one in
-    let a : c.act-of.result ≡ act_of_lem r = c.act-of.ensures in (
+    let a : c.act_of.result ≡ act_of_lem r = c.act_of.ensures in (
       c.enter.ensures.lent ∙ c.loop-next.invariant.0,
       λ z.
           let i = c.loop-next.invariant.1 z in
@@ -24,13 +24,13 @@ loop-next-preserved c =
           (k.0, i.1 ∙ k.1),
     )
 
-pub returns-in-default-next : goal.returns-in-default-next
-returns-in-default-next c =
+pub returns-in_default-next : goal.returns-in_default-next
+returns-in_default-next c =
     let x = c.loop-next.reader in
     let y = c.next.new.self in
     let s = state_of c.loop-next.draft in
     let e = c.in-Ok.ensures in
-    let v = ap (λ (o : Option Record). Ok (sheet.meant_if o)) (sym c.in-default-next.is) ∙ e.value in
+    let v = ap (λ (o : Option Record). Ok (sheet.meant_if o)) (sym c.in_default-next.is) ∙ e.value in
     record {
       lent = c.loop-next.invariant.0;
       plan = λ z. sym ((c.loop-next.invariant.1 z).1 ∙ closes-end s x y e.moved v);
@@ -41,7 +41,7 @@ returns c =
     let x = c.loop-next.reader in
     let y = c.next.new.self in
     let s = state_of c.loop-next.draft in
-    let e = c.in-default.ensures in
+    let e = c.in_default.ensures in
     record {
       lent = c.loop-next.invariant.0;
       plan = λ z. sym ((c.loop-next.invariant.1 z).1 ∙ closes-stop s x y e.moved _ e.value);

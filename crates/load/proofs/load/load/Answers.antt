@@ -9,13 +9,13 @@ returns-in-Ok c =
     let xs = c.args.file.now in
     let d = c.args.draft.now in
     let e = c.in-Ok.ensures.value in
-    let a = c.in-ok-check.ensures ∙ ap (load_fault xs) c.places.ensures in
+    let a = c.in_ok-check.ensures ∙ ap (load_fault xs) c.places.ensures in
     record {
-      lent = c.enter-records.ensures.lent;
+      lent = c.enter_records.ensures.lent;
       answer = a;
-      accepted = λ z. loads xs (state_of d) (state_of c.enter-records.new.draft) c.in-Ok.reader e.0 (opened xs c.in-Ok.reader e.1 e.2 e.3) (sym a) c.enter-records.ensures.plan;
+      accepted = λ z. loads xs (state_of d) (state_of c.enter_records.new.draft) c.in-Ok.reader e.0 (opened xs c.in-Ok.reader e.1 e.2 e.3) (sym a) c.enter_records.ensures.plan;
       refused = λ n. absurd (n refl);
     }
 
-pub returns-in-default : goal.returns-in-default
-returns-in-default c = absurd (not_opened c.args.file.now c.places.result c.in-default.ensures.value.0 (sym c.in-ok-check.ensures))
+pub returns-in_default : goal.returns-in_default
+returns-in_default c = absurd (not_opened c.args.file.now c.places.result c.in_default.ensures.value.0 (sym c.in_ok-check.ensures))

@@ -17,9 +17,9 @@ returns c =
     let z = state d.plan d.places.now d.count false in
     let m = c.either-mask.ensures ∙ ap₂ ◌||◌ (c.beyond.ensures ∙ ap (λ (n : ℕ). beyond n c.args.g) c.sensors.ensures) (c.beyond-2.ensures ∙ ap (λ (n : ℕ). beyond n c.args.h) c.sensors-2.ensures) in
     let a = asked-as (absent (board d.plan) c.args.s c.args.t || absent (board d.plan) c.args.u c.args.w) (misfit (board d.plan) c.args.s c.args.t || misfit (board d.plan) c.args.u c.args.w) (repeated c.args.s c.args.t c.args.u c.args.w) (ltb (free_places z) 3) c.in-Ok.ensures m (refl {a = false}) in
-    let two = c.enter-range-2.ensures.plan ∙ ap (λ (y : State SheetRule). afterwards (range_calls y.board c.args.h c.args.u c.args.w) y) c.enter-range.ensures.plan in
+    let two = c.enter_range-2.ensures.plan ∙ ap (λ (y : State SheetRule). afterwards (range_calls y.board c.args.h c.args.u c.args.w) y) c.enter_range.ensures.plan in
     record {
-      lent = c.post.ensures.lent ∙ c.enter-range-2.ensures.lent ∙ c.enter-range.ensures.lent;
+      lent = c.post.ensures.lent ∙ c.enter_range-2.ensures.lent ∙ c.enter_range.ensures.lent;
       whole = record {
         answer = a;
         accepted = λ _. c.post.ensures.plan ∙ ap (does sheet_fault sheet_run (post (within_rule c.args.w c.args.t))) two;

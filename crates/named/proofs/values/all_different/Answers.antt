@@ -18,10 +18,10 @@ returns c =
     let a = asked-as (absent (board d.plan) c.args.s c.args.t) (misfit (board d.plan) c.args.s c.args.t) (eqb c.args.s c.args.t) (ltb (free_places z) 2) c.in-Ok.ensures (c.beyond-mask.ensures ∙ ap (λ (n : ℕ). beyond n c.args.g) c.sensors.ensures) (refl {a = false}) in
     let few : ones c.args.g ≤ 64 = search rules in
     record {
-      lent = c.enter-count.ensures.lent ∙ c.enter-range.ensures.lent;
+      lent = c.enter_count.ensures.lent ∙ c.enter_range.ensures.lent;
       whole = record {
         answer = a;
-        accepted = λ _. c.enter-count.ensures.plan ∙ ap (does sheet_fault sheet_run (post (count_rule c.args.t (ones c.args.g) (ones c.args.g)))) c.enter-range.ensures.plan;
+        accepted = λ _. c.enter_count.ensures.plan ∙ ap (does sheet_fault sheet_run (post (count_rule c.args.t (ones c.args.g) (ones c.args.g)))) c.enter_range.ensures.plan;
         each = λ _. all-different-each z c.args.g c.args.s c.args.t few (sym a);
       };
       refused = λ h. absurd (h refl);

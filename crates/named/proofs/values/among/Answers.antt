@@ -17,11 +17,11 @@ returns c =
     let m = c.either-mask.ensures ∙ ap₂ ◌||◌ (c.beyond.ensures ∙ ap (λ (n : ℕ). beyond n c.args.g) c.sensors.ensures) (c.beyond-2.ensures ∙ ap (λ (n : ℕ). beyond n c.args.v) c.slots.ensures) in
     let a = asked-as (absent (board d.plan) c.args.s c.args.t) (misfit (board d.plan) c.args.s c.args.t) (eqb c.args.s c.args.t) (ltb (free_places z) 2) c.in-Ok.ensures m c.no_range_lem.ensures in
     record {
-      lent = c.enter-count.ensures.lent ∙ c.post.ensures.lent ∙ c.enter-is.ensures.lent;
+      lent = c.enter_count.ensures.lent ∙ c.post.ensures.lent ∙ c.enter_is.ensures.lent;
       whole = record {
         answer = a;
-        accepted = λ _. c.enter-count.ensures.plan ∙ ap (does sheet_fault sheet_run (post (count_rule c.args.s c.args.p c.args.q)))
-            (c.post.ensures.plan ∙ ap (does sheet_fault sheet_run (post (roots_rule c.args.g c.args.s c.args.t))) c.enter-is.ensures.plan);
+        accepted = λ _. c.enter_count.ensures.plan ∙ ap (does sheet_fault sheet_run (post (count_rule c.args.s c.args.p c.args.q)))
+            (c.post.ensures.plan ∙ ap (does sheet_fault sheet_run (post (roots_rule c.args.g c.args.s c.args.t))) c.enter_is.ensures.plan);
         each = λ _. among-each z c.args.g c.args.s c.args.t c.args.v c.args.p c.args.q (sym a);
       };
       refused = λ h. absurd (h refl);

@@ -16,10 +16,10 @@ returns c =
     let z = state d.plan d.places.now d.count false in
     let a = asked-as (absent (board d.plan) c.args.s c.args.t) (misfit (board d.plan) c.args.s c.args.t) (eqb c.args.s c.args.t) (ltb (free_places z) 2) c.in-Ok.ensures (c.beyond-mask.ensures ∙ ap (λ (n : ℕ). beyond n c.args.g) c.sensors.ensures) c.no_range_lem.ensures in
     record {
-      lent = c.enter-count.ensures.lent ∙ c.enter-range.ensures.lent;
+      lent = c.enter_count.ensures.lent ∙ c.enter_range.ensures.lent;
       whole = record {
         answer = a;
-        accepted = λ _. c.enter-count.ensures.plan ∙ ap (does sheet_fault sheet_run (post (count_rule c.args.t c.args.p c.args.q))) c.enter-range.ensures.plan;
+        accepted = λ _. c.enter_count.ensures.plan ∙ ap (does sheet_fault sheet_run (post (count_rule c.args.t c.args.p c.args.q))) c.enter_range.ensures.plan;
         each = λ _. n-value-each z c.args.g c.args.s c.args.t c.args.p c.args.q (sym a);
       };
       refused = λ h. absurd (h refl);

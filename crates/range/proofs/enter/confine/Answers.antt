@@ -11,6 +11,6 @@ returns c =
     let d = c.args.d.now in
     record {
       board = c.bar.ensures.board;
-      model = confined (board d) (some d) c.args.set c.args.mask (model d) _ (is-kept d) (c.bar.ensures.model ∙ ap (λ (m : ℕ). narrow (board d) (bar c.args.set m) (model d)) (c.take-out-outside.ensures ∙ ap (λ (m : ℕ). without m c.args.mask) c.upper.ensures));
+      model = confined (board d) (some d) c.args.set c.args.mask (model d) _ (is-kept d) (c.bar.ensures.model ∙ ap (λ (m : ℕ). narrow (board d) (bar c.args.set m) (model d)) (c.take_out-outside.ensures ∙ ap (λ (m : ℕ). without m c.args.mask) c.upper.ensures));
       moved = c.bar.ensures.moved;
     }

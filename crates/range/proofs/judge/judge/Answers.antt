@@ -19,7 +19,7 @@ loop-i-preserved-then-seen c =
     let r = c.look-seen.result in
     simp (n.others, with-low _ i n.low c.with-bound.ensures) (judged-held i n.low n.member c.loop-i.invariant r.slots
     (subst (Looked (candidate cands) c.args.sensors c.args.claimed c.args.lower c.args.upper (get_or cands i 0) r.slots i) c.if-seen.true
-    (c.look-seen.ensures (candidate cands) c.args.sensors c.args.claimed (c.role.ensures (candidate cands) c.args.sensors c.args.claimed (c.spare-all-spares.ensures c.args.sensors c.args.claimed c.in-Ok.ensures)))))
+    (c.look-seen.ensures (candidate cands) c.args.sensors c.args.claimed (c.role.ensures (candidate cands) c.args.sensors c.args.claimed (c.spare_all-spares.ensures c.args.sensors c.args.claimed c.in-Ok.ensures)))))
 
 pub loop-i-smaller : goal.loop-i-smaller
 loop-i-smaller c = simp c.in-Some.ensures.others (fewer-left c.loop-i.left c.in-Some.i c.in-Some.ensures.member)
@@ -32,7 +32,7 @@ loop-i-preserved c =
     let r = c.look-seen.result in
     simp n.others (judged-freed i n.low n.member c.loop-i.invariant r.slots
     (subst (Looked (candidate cands) c.args.sensors c.args.claimed c.args.lower c.args.upper (get_or cands i 0) r.slots i) c.if-seen.false
-    (c.look-seen.ensures (candidate cands) c.args.sensors c.args.claimed (c.role.ensures (candidate cands) c.args.sensors c.args.claimed (c.spare-all-spares.ensures c.args.sensors c.args.claimed c.in-Ok.ensures)))))
+    (c.look-seen.ensures (candidate cands) c.args.sensors c.args.claimed (c.role.ensures (candidate cands) c.args.sensors c.args.claimed (c.spare_all-spares.ensures c.args.sensors c.args.claimed c.in-Ok.ensures)))))
 
 pub returns : goal.returns
-returns c = judged-all c.in-default.ensures c.loop-i.invariant
+returns c = judged-all c.in_default.ensures c.loop-i.invariant

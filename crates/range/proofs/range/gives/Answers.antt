@@ -19,14 +19,14 @@ looked can able slots i t a b c d e f g h p q r o l =
     subst (λ (u : ℕ). Looked can able u f g h slots i t) p (subst (λ (u : ℕ). Looked can able a u g h slots i t) q
     (subst (λ (u : ℕ). Looked can able a b u h slots i t) r (subst (λ (u : ℕ). Looked can able a b c u slots i t) o l)))
 
-pub returns-then-not-is-within : goal.returns-then-not-is-within
-returns-then-not-is-within c =
+pub returns-then-not-is_within : goal.returns-then-not-is_within
+returns-then-not-is_within c =
     let d = c.args.d.now in
     let k = c.args in
     let fit = range-fits (board d) k.g k.s k.t c.requires in
-    let was = c.look-up-was.result in
-    let w = c.look-up-was.ensures in
-    let no : within (lo (model d) k.s) was.sensors ≡ false = ap (λ (u : ℕ). within u was.sensors) (sym w.lower_is) ∙ sym c.if-not-is-within.ensures in
+    let was = c.look_up-was.result in
+    let w = c.look_up-was.ensures in
+    let no : within (lo (model d) k.s) was.sensors ≡ false = ap (λ (u : ℕ). within u was.sensors) (sym w.lower_is) ∙ sym c.if-not-is_within.ensures in
     record {
       used = λ e. absurd (false≢true e);
       found = λ u. absurd (both_ways _ no (lower-able (board d) k.g k.s k.t fit (model d) was.cands w.same was.sensors w.far
@@ -38,8 +38,8 @@ returns-in-Err c =
     let d = c.args.d.now in
     let k = c.args in
     let fit = range-fits (board d) k.g k.s k.t c.requires in
-    let was = c.look-up-was.result in
-    let w = c.look-up-was.ensures in
+    let was = c.look_up-was.result in
+    let w = c.look_up-was.ensures in
     let z = c.in-Err.ensures.0 in
     let short = subst (λ (u : ℕ). Short (candidate was.cands) was.sensors u c.in-Err.field-0) w.claimed_is z in
     record {
@@ -55,10 +55,10 @@ returns-in-Ok c =
     let k = c.args in
     let i = c.args.sensor in
     let fit = range-fits (board d) k.g k.s k.t c.requires in
-    let was = c.look-up-was.result in
-    let w = c.look-up-was.ensures in
+    let was = c.look_up-was.result in
+    let w = c.look_up-was.ensures in
     let r = c.look-seen.result in
-    let yes : within (lo x k.s) was.sensors ≡ true = ap (λ (u : ℕ). within u was.sensors) (sym w.lower_is) ∙ sym c.if-not-is-within.ensures in
+    let yes : within (lo x k.s) was.sensors ≡ true = ap (λ (u : ℕ). within u was.sensors) (sym w.lower_is) ∙ sym c.if-not-is_within.ensures in
     let h = looked (candidate was.cands) was.sensors r.slots i r.bound was.claimed was.lower was.upper c.candidates.result (lo x k.t) (lo x k.s) (hi x k.t) (cand x i)
     w.claimed_is w.lower_is w.upper-is c.candidates.ensures (c.look-seen.ensures (candidate was.cands) was.sensors was.claimed (c.spare.ensures (candidate was.cands) was.sensors was.claimed c.in-Ok.ensures)) in
     record {

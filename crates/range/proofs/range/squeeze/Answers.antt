@@ -25,16 +25,16 @@ said cands able a b c d e f keep bound near p q r h =
 only : (cands : List ℕ) (sure a b c d : ℕ) → a ≡ c → b ≡ d → Sure cands a b 0 sure → Sure cands c d 0 sure
 only cands sure a b c d p q h = subst (λ (u : ℕ). Sure cands u d 0 sure) p (subst (λ (u : ℕ). Sure cands a u 0 sure) q h)
 
-pub returns-then-not-is-within : goal.returns-then-not-is-within
-returns-then-not-is-within c =
+pub returns-then-not-is_within : goal.returns-then-not-is_within
+returns-then-not-is_within c =
     let d = c.args.d.now in
     let g = c.args.g in
     let s = c.args.s in
     let t = c.args.t in
     let fit = range-fits (board d) g s t c.requires in
-    let was = c.look-up-was.result in
-    let w = c.look-up-was.ensures in
-    let no : within (lo (model d) s) was.sensors ≡ false = ap (λ (u : ℕ). within u was.sensors) (sym w.lower_is) ∙ sym c.if-not-is-within.ensures in
+    let was = c.look_up-was.result in
+    let w = c.look_up-was.ensures in
+    let no : within (lo (model d) s) was.sensors ≡ false = ap (λ (u : ℕ). within u was.sensors) (sym w.lower_is) ∙ sym c.if-not-is_within.ensures in
     let e = c.limit.ensures in
     record {
       board = e.board;
@@ -50,8 +50,8 @@ returns-in-None c =
     let s = c.args.s in
     let t = c.args.t in
     let fit = range-fits (board d) g s t c.requires in
-    let was = c.look-up-was.result in
-    let w = c.look-up-was.ensures in
+    let was = c.look_up-was.result in
+    let w = c.look_up-was.ensures in
     let z = c.in-None.ensures in
     let short = subst (λ (u : ℕ). Short (candidate was.cands) was.sensors u z.0) w.claimed_is z.1 in
     let e = c.limit-in-None.ensures in
@@ -70,11 +70,11 @@ returns-in-Some c =
     let s = c.args.s in
     let t = c.args.t in
     let fit = range-fits (board d) g s t c.requires in
-    let was = c.look-up-was.result in
-    let w = c.look-up-was.ensures in
+    let was = c.look_up-was.result in
+    let w = c.look_up-was.ensures in
     let v = c.in-Some.verdict in
     let sure = c.sure-single.result in
-    let yes : within (lo x s) was.sensors ≡ true = ap (λ (u : ℕ). within u was.sensors) (sym w.lower_is) ∙ sym c.if-not-is-within.ensures in
+    let yes : within (lo x s) was.sensors ≡ true = ap (λ (u : ℕ). within u was.sensors) (sym w.lower_is) ∙ sym c.if-not-is_within.ensures in
     let e = c.enter.ensures in
     record {
       board = e.board;

@@ -9,10 +9,10 @@ pub returns : goal.returns
 returns c =
     let x = model c.args.d.now in
     let g = c.args.g in
-    let cands = c.all-candidates-cands.result in
+    let cands = c.all_candidates-cands.result in
     let able = c.able-sensors.result in
     record {
-      same = c.all-candidates-cands.ensures;
+      same = c.all_candidates-cands.ensures;
       lower_is = c.lower.ensures;
       claimed_is = c.lower-2.ensures;
       upper_is = c.upper-upper.ensures;

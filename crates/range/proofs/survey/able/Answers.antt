@@ -21,4 +21,4 @@ loop-i-preserved c =
     simp c.in-Some.ensures.others (able-out c.in-Some.i c.in-Some.ensures.member c.loop-i.invariant (eq-eqb _ 0 c.if-cands-i-ne0.false))
 
 pub returns : goal.returns
-returns c = able-all c.in-default.ensures c.loop-i.invariant
+returns c = able-all c.in_default.ensures c.loop-i.invariant

@@ -4,8 +4,8 @@ use Rattle.roots.proofs.roots.rest.Goals as goal
 pub returns-then-stirred : goal.returns-then-stirred
 returns-then-stirred c =
     let e = c.sweep-stirred.ensures in
-    let f = c.settle-parts.ensures in
-    let w = brought c.args.g c.args.s c.args.t c.args.d.now c.sweep-stirred.new.d c.settle-parts.new.d c.sweep-stirred.result c.settle-parts.result
+    let f = c.settle_parts.ensures in
+    let w = brought c.args.g c.args.s c.args.t c.args.d.now c.sweep-stirred.new.d c.settle_parts.new.d c.sweep-stirred.result c.settle_parts.result
     (record { board_same = e.board; result = e.model; progress = e.moved }) c.if-stirred.true f.board f.model f.moved in
     record { board = w.board_same; model = w.model-is; moved = w.progress }
 

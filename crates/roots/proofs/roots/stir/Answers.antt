@@ -17,7 +17,7 @@ returns c =
     c.forward-forth.result c.backward-back.result (sym c.if-not-contains.ensures) (e.board, e.model, e.moved) (f.board, f.model, f.moved) in
     record { board = w.board_same; model = w.result; moved = w.progress }
 
-pub returns-then-is-unsure : goal.returns-then-is-unsure
-returns-then-is-unsure c =
-    let w = quiet c.args.g c.args.s c.args.t c.args.sensor c.args.d.now c.requires.fit c.requires.sensor (sym c.if-not-contains.ensures) (sym c.if-is-unsure.ensures) in
+pub returns-then-is_unsure : goal.returns-then-is_unsure
+returns-then-is_unsure c =
+    let w = quiet c.args.g c.args.s c.args.t c.args.sensor c.args.d.now c.requires.fit c.requires.sensor (sym c.if-not-contains.ensures) (sym c.if-is_unsure.ensures) in
     record { board = w.board_same; model = w.result; moved = w.progress }

@@ -9,8 +9,8 @@ returns-then-lo-ne0 c = c.stretch.ensures ∙ ap₂ stretch c.lowest.ensures c.p
 pub returns-then-hi-eq0 : goal.returns-then-hi-eq0
 returns-then-hi-eq0 c = sym (in-dead c.args.lo c.args.hi (search rules) (search rules))
 
-pub returns-then-is-single : goal.returns-then-is-single
-returns-then-is-single c = sym (in-single c.args.lo c.args.hi (search rules) (search rules) (search rules))
+pub returns-then-is_single : goal.returns-then-is_single
+returns-then-is_single c = sym (in-single c.args.lo c.args.hi (search rules) (search rules) (search rules))
 
-pub returns-else-is-single : goal.returns-else-is-single
-returns-else-is-single c = sym (in-free c.args.lo c.args.hi (search rules) (search rules) (search rules))
+pub returns-else-is_single : goal.returns-else-is_single
+returns-else-is_single c = sym (in-free c.args.lo c.args.hi (search rules) (search rules) (search rules))

@@ -6,4 +6,4 @@ use Rattle.sheet.proofs.reader.entry_of.Goals as goal
 pub returns : goal.returns
 returns c =
     let xs = c.args.fields.now in
-    (refl, c.mask-of.ensures ∙ ap (mask_at 0) (between_to_end xs 1 (length xs) (omega arith)))
+    (refl, c.mask_of.ensures ∙ ap (mask_at 0) (between_to_end xs 1 (length xs) (omega arith)))

@@ -7,7 +7,7 @@ pub returns : goal.returns
 unfolding word_width
 returns c =
     let xs = c.args.fields.now in
-    let e : c.from-be-bytes.result ≡ value (items xs 3 4) = omega arith in
+    let e : c.from_be_bytes.result ≡ value (items xs 3 4) = omega arith in
     ap (head (get_or xs 0 0) (get_or xs 1 0) (get_or xs 2 0)) (e ∙ ap value (sym (take-items xs 3 4 (omega arith))))
 
 pub unreachable-requires : goal.unreachable-requires

@@ -7,7 +7,7 @@ pub returns : goal.returns
 unfolding mask_width
 returns c =
     let xs = c.args.bytes.now in
-    let e : c.from-be-bytes.result ≡ value (items xs 0 8) = omega arith in
+    let e : c.from_be_bytes.result ≡ value (items xs 0 8) = omega arith in
     e ∙ ap value (sym (take-items xs 0 8 (omega arith)))
 
 pub unreachable-requires : goal.unreachable-requires

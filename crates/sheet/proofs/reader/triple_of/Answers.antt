@@ -12,4 +12,4 @@ bounds-fields c = omega arith
 
 pub returns : goal.returns
 unfolding mask_width
-returns c = (c.mask-of.ensures, refl, refl)
+returns c = (c.mask_of.ensures, refl, refl)

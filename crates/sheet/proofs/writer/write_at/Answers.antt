@@ -11,7 +11,7 @@ returns-in-Head c =
     let o = c.args.out.now in
     let at = c.args.at in
     let r = place_of c.put.result in
-    let e = word_bytes c.in-Head.kinds c.to-be-bytes.result c.to-be-bytes.ensures in
+    let e = word_bytes c.in-Head.kinds c.to_be_bytes.result c.to_be_bytes.ensures in
     record {
       value = c.put.ensures.value ∙ ap (λ (b : List ℕ). putting (1 ∷ c.in-Head.n ∷ c.in-Head.m ∷ c.in-Head.k ∷ b) b at o) e ∙ ap (λ x. wrote (meant x) at o) (sym c.in-Head.is);
       after = c.put.ensures.after ∙ ap (λ (b : List ℕ). laid_over r o at (framed (1 ∷ c.in-Head.n ∷ c.in-Head.m ∷ c.in-Head.k ∷ b))) e ∙ ap (λ x. laid_over r o at (encode (meant x))) (sym c.in-Head.is);
@@ -25,7 +25,7 @@ returns-in-Limit c =
     let o = c.args.out.now in
     let at = c.args.at in
     let r = place_of c.put-in-Limit.result in
-    let e = mask-bytes c.in-Limit.mask c.to-be-bytes-in-Limit.result c.to-be-bytes-in-Limit.ensures in
+    let e = mask-bytes c.in-Limit.mask c.to_be_bytes-in-Limit.result c.to_be_bytes-in-Limit.ensures in
     record {
       value = c.put-in-Limit.ensures.value ∙ ap (λ (b : List ℕ). putting (3 ∷ c.in-Limit.sensor ∷ b) b at o) e ∙ ap (λ x. wrote (meant x) at o) (sym c.in-Limit.is);
       after = c.put-in-Limit.ensures.after ∙ ap (λ (b : List ℕ). laid_over r o at (framed (3 ∷ c.in-Limit.sensor ∷ b))) e ∙ ap (λ x. laid_over r o at (encode (meant x))) (sym c.in-Limit.is);
@@ -39,7 +39,7 @@ returns-in-Claim c =
     let o = c.args.out.now in
     let at = c.args.at in
     let r = place_of c.put-in-Claim.result in
-    let e = mask-bytes c.in-Claim.mask c.to-be-bytes-in-Claim.result c.to-be-bytes-in-Claim.ensures in
+    let e = mask-bytes c.in-Claim.mask c.to_be_bytes-in-Claim.result c.to_be_bytes-in-Claim.ensures in
     record {
       value = c.put-in-Claim.ensures.value ∙ ap (λ (b : List ℕ). putting (4 ∷ c.in-Claim.set ∷ b) b at o) e ∙ ap (λ x. wrote (meant x) at o) (sym c.in-Claim.is);
       after = c.put-in-Claim.ensures.after ∙ ap (λ (b : List ℕ). laid_over r o at (framed (4 ∷ c.in-Claim.set ∷ b))) e ∙ ap (λ x. laid_over r o at (encode (meant x))) (sym c.in-Claim.is);
@@ -53,7 +53,7 @@ returns-in-Bar c =
     let o = c.args.out.now in
     let at = c.args.at in
     let r = place_of c.put-in-Bar.result in
-    let e = mask-bytes c.in-Bar.mask c.to-be-bytes-in-Bar.result c.to-be-bytes-in-Bar.ensures in
+    let e = mask-bytes c.in-Bar.mask c.to_be_bytes-in-Bar.result c.to_be_bytes-in-Bar.ensures in
     record {
       value = c.put-in-Bar.ensures.value ∙ ap (λ (b : List ℕ). putting (5 ∷ c.in-Bar.set ∷ b) b at o) e ∙ ap (λ x. wrote (meant x) at o) (sym c.in-Bar.is);
       after = c.put-in-Bar.ensures.after ∙ ap (λ (b : List ℕ). laid_over r o at (framed (5 ∷ c.in-Bar.set ∷ b))) e ∙ ap (λ x. laid_over r o at (encode (meant x))) (sym c.in-Bar.is);
@@ -67,7 +67,7 @@ returns-in-Range c =
     let o = c.args.out.now in
     let at = c.args.at in
     let r = place_of c.put-in-Range.result in
-    let e = mask-bytes c.in-Range.g c.to-be-bytes-in-Range.result c.to-be-bytes-in-Range.ensures in
+    let e = mask-bytes c.in-Range.g c.to_be_bytes-in-Range.result c.to_be_bytes-in-Range.ensures in
     record {
       value = c.put-in-Range.ensures.value ∙ ap (λ (b : List ℕ). putting (6 ∷ (b ++ (c.in-Range.s ∷ c.in-Range.t ∷ []))) (c.in-Range.s ∷ c.in-Range.t ∷ []) at o) e ∙ ap (λ x. wrote (meant x) at o) (sym c.in-Range.is);
       after = c.put-in-Range.ensures.after ∙ ap (λ (b : List ℕ). laid_over r o at (framed (6 ∷ (b ++ (c.in-Range.s ∷ c.in-Range.t ∷ []))))) e ∙ ap (λ x. laid_over r o at (encode (meant x))) (sym c.in-Range.is);
@@ -81,7 +81,7 @@ returns-in-Roots c =
     let o = c.args.out.now in
     let at = c.args.at in
     let r = place_of c.put-in-Roots.result in
-    let e = mask-bytes c.in-Roots.g c.to-be-bytes-in-Roots.result c.to-be-bytes-in-Roots.ensures in
+    let e = mask-bytes c.in-Roots.g c.to_be_bytes-in-Roots.result c.to_be_bytes-in-Roots.ensures in
     record {
       value = c.put-in-Roots.ensures.value ∙ ap (λ (b : List ℕ). putting (7 ∷ (b ++ (c.in-Roots.s ∷ c.in-Roots.t ∷ []))) (c.in-Roots.s ∷ c.in-Roots.t ∷ []) at o) e ∙ ap (λ x. wrote (meant x) at o) (sym c.in-Roots.is);
       after = c.put-in-Roots.ensures.after ∙ ap (λ (b : List ℕ). laid_over r o at (framed (7 ∷ (b ++ (c.in-Roots.s ∷ c.in-Roots.t ∷ []))))) e ∙ ap (λ x. laid_over r o at (encode (meant x))) (sym c.in-Roots.is);

@@ -20,4 +20,4 @@ loop-k-preserved c =
     (λ u l. c.pass.ensures u (omega (arith, c.past-end.ensures))) c.loop-k.invariant low)
 
 pub returns : goal.returns
-returns c = closing-all c.in-default.ensures c.loop-k.invariant
+returns c = closing-all c.in_default.ensures c.loop-k.invariant

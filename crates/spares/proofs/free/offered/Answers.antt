@@ -25,4 +25,4 @@ pub returns-then-found-claimed : goal.returns-then-found-claimed
 returns-then-found-claimed c = offered-full c.if-found-claimed.true c.loop-i.invariant
 
 pub returns : goal.returns
-returns c = offered-all c.in-default.ensures c.loop-i.invariant
+returns c = offered-all c.in_default.ensures c.loop-i.invariant

@@ -25,12 +25,12 @@ pub loop-v-smaller : goal.loop-v-smaller
 loop-v-smaller c =
     let v = c.in-Some.v in
     let p = and_parts _ _ (sym (has-and c.loop-v.free c.loop-v.left v) ∙ c.in-Some.ensures.member) in
-    simp (drop-low _ v c.in-Some.ensures.low c.drop-one-left.ensures) (fewer-left c.loop-v.left v p.1)
+    simp (drop-low _ v c.in-Some.ensures.low c.drop_one-left.ensures) (fewer-left c.loop-v.left v p.1)
 
 pub loop-v-preserved : goal.loop-v-preserved
 loop-v-preserved c =
     let v = c.in-Some.v in
-    simp (drop-low _ v c.in-Some.ensures.low c.drop-one-left.ensures) (
+    simp (drop-low _ v c.in-Some.ensures.low c.drop_one-left.ensures) (
       λ x e. c.loop-v.invariant.0 x (drop-only c.loop-v.left v x e),
       λ o. freed-next c.args.notes.now (search rules) c.args.cands.now o c.loop-v.left v c.in-Some.ensures.member (c.loop-v.invariant.1 o),
     )
@@ -47,4 +47,4 @@ returns c s k f =
     let n = c.args.notes.now in
     let cands = c.args.cands.now in
     at-notes (λ x y. Freed (candidate cands) x y (sensor_of n) c.loop-v.free c.loop-v.free) (candidate cands) s k n f (λ o.
-    freed-last n (search rules) cands o c.loop-v.left c.in-default.ensures (c.loop-v.invariant.1 o))
+    freed-last n (search rules) cands o c.loop-v.left c.in_default.ensures (c.loop-v.invariant.1 o))

@@ -21,4 +21,4 @@ pub loop-v-preserved : goal.loop-v-preserved
 loop-v-preserved c = simp c.in-Some.ensures.others (rowed-more c.in-Some.v c.in-Some.ensures.low c.in-Some.ensures.member c.loop-v.invariant)
 
 pub returns : goal.returns
-returns c = rowed-all c.in-default.ensures c.loop-v.invariant
+returns c = rowed-all c.in_default.ensures c.loop-v.invariant

@@ -14,7 +14,7 @@ loop-two-preserved c =
     let next : 2 * (c.loop-two.two + 1) ≡ i + 2 = omega arith in
     let one = c.single.ensures ∙ mod_low i (omega arith) in
     let other = c.single-in-loop-two.ensures ∙ mod_low (i + 1) (omega arith) in
-    simp next (turning-more c.add-two.array_long (λ u v l. simp (one, other) at (c.add-two.ensures u v l)) c.loop-two.invariant)
+    simp next (turning-more c.add_two.array_long (λ u v l. simp (one, other) at (c.add_two.ensures u v l)) c.loop-two.invariant)
 
 pub returns : goal.returns
 returns c u v l =

@@ -9,7 +9,7 @@ loop-i-init c = (rw sensors-none (put-none 0 c.args.out.now), omega arith)
 
 pub loop-i-preserved : goal.loop-i-preserved
 loop-i-preserved c = (
-  one-sensor (model c.args.d.now).cands c.loop-i.i c.candidates.result c.candidates.ensures c.loop-i.auto.out c.loop-i.invariant.0 c.put-sensor-end.ensures.puts,
+  one-sensor (model c.args.d.now).cands c.loop-i.i c.candidates.result c.candidates.ensures c.loop-i.auto.out c.loop-i.invariant.0 c.put_sensor-end.ensures.puts,
   omega arith,
 )
 

@@ -9,7 +9,7 @@ loop-j-init c = (rw sets-none (put-none c.args.at c.args.out.now), omega arith)
 
 pub loop-j-preserved : goal.loop-j-preserved
 loop-j-preserved c = (
-  one_set (model c.args.d.now).lows (model c.args.d.now).highs c.loop-j.j c.lower.result c.upper.result c.args.at c.lower.ensures c.upper.ensures c.loop-j.auto.out c.loop-j.invariant.0 c.put-set-end.ensures.puts,
+  one_set (model c.args.d.now).lows (model c.args.d.now).highs c.loop-j.j c.lower.result c.upper.result c.args.at c.lower.ensures c.upper.ensures c.loop-j.auto.out c.loop-j.invariant.0 c.put_set-end.ensures.puts,
   omega arith,
 )
 

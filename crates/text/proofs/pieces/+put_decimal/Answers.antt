@@ -7,5 +7,5 @@ use Rattle.text.proofs.pieces.+put_decimal.Goals as goal
 pub returns : goal.returns
 returns t c =
     let p : Put (decimal c.args.n) c.args.at c.put.result c.args.out.now c.put.new.out =
-    rw (decimal_step c.args.n (omega arith) (omega arith)) (put-join (omega arith) c.put-decimal-mid.ensures.puts c.put.ensures) in
+    rw (decimal_step c.args.n (omega arith) (omega arith)) (put-join (omega arith) c.put_decimal-mid.ensures.puts c.put.ensures) in
     record { puts = p; near = omega (arith, length-decimal-le 20 c.args.n (omega arith) (omega arith) (omega arith)) }

@@ -9,7 +9,7 @@ loop-i-init c = (rw members-none (put-none c.args.at c.args.out.now), omega arit
 pub loop-i-preserved : goal.loop-i-preserved
 loop-i-preserved c = elim c.if-contains.branch [
   | then-contains w ↦
-      (rw (members-with c.args.mask c.loop-i.i (sym w.if-contains.ensures), w.end-is, w.out-is) (put-join c.loop-i.auto.out c.loop-i.invariant.0 w.put-member-end.ensures.puts), omega arith)
+      (rw (members-with c.args.mask c.loop-i.i (sym w.if-contains.ensures), w.end-is, w.out-is) (put-join c.loop-i.auto.out c.loop-i.invariant.0 w.put_member-end.ensures.puts), omega arith)
   | else-contains w ↦
       (rw (members-skip c.args.mask c.loop-i.i (sym w.if-contains.ensures), w.end-is, w.out-is) c.loop-i.invariant.0, omega arith)
 ]

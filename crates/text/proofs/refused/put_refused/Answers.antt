@@ -4,5 +4,5 @@ use Rattle.text.proofs.refused.put_refused.Goals as goal
 
 pub returns : goal.returns
 returns c =
-    put-join (omega arith) c.put-a.ensures (put-join (omega arith) c.put-decimal-b.ensures.puts (put-join (omega arith) c.put-c.ensures
-    (put-join (omega arith) c.put-decimal-d.ensures.puts c.put.ensures)))
+    put-join (omega arith) c.put-a.ensures (put-join (omega arith) c.put_decimal-b.ensures.puts (put-join (omega arith) c.put-c.ensures
+    (put-join (omega arith) c.put_decimal-d.ensures.puts c.put.ensures)))

@@ -12,26 +12,26 @@ returns-then-set-self c =
 
 pub returns-then-left-was : goal.returns-then-left-was
 returns-then-left-was c =
-    let w = bar-none c.args.self.now c.args.set c.args.mask c.if-set-self.false (sym c.take-out-left.ensures ∙ c.if-left-was.true) in
+    let w = bar-none c.args.self.now c.args.set c.args.mask c.if-set-self.false (sym c.take_out-left.ensures ∙ c.if-left-was.true) in
     record { board = w.board_same; model = w.model-is; moved = w.progress }
 
-pub invariant-of-self : goal.invariant-of-self
-invariant-of-self c =
+pub invariant_of-self : goal.invariant_of-self
+invariant_of-self c =
     let d = c.args.self.now in
-    let e = c.take-out-left.ensures in
+    let e = c.take_out-left.ensures in
     bar-rows d c.args.set c.args.mask _ c.if-set-self.false e
-    (bar-left d c.args.set c.args.mask c.if-set-self.false (λ z. c.if-left-was.false (e ∙ z)) (ap (within (get_or d.lo c.args.set 0)) (sym e) ∙ sym c.is-within.ensures ∙ c.if-is-within.true))
+    (bar-left d c.args.set c.args.mask c.if-set-self.false (λ z. c.if-left-was.false (e ∙ z)) (ap (within (get_or d.lo c.args.set 0)) (sym e) ∙ sym c.is_within.ensures ∙ c.if-is_within.true))
 
-pub returns-then-is-within : goal.returns-then-is-within
-returns-then-is-within c =
+pub returns-then-is_within : goal.returns-then-is_within
+returns-then-is_within c =
     let d = c.args.self.now in
-    let e = c.take-out-left.ensures in
-    let w = bar-writes d c.args.set c.args.mask c.if-set-self.false (λ z. c.if-left-was.false (e ∙ z)) (ap (within (get_or d.lo c.args.set 0)) (sym e) ∙ sym c.is-within.ensures ∙ c.if-is-within.true) _ (bar-box d c.args.set c.args.mask _ c.if-set-self.false e) in
+    let e = c.take_out-left.ensures in
+    let w = bar-writes d c.args.set c.args.mask c.if-set-self.false (λ z. c.if-left-was.false (e ∙ z)) (ap (within (get_or d.lo c.args.set 0)) (sym e) ∙ sym c.is_within.ensures ∙ c.if-is_within.true) _ (bar-box d c.args.set c.args.mask _ c.if-set-self.false e) in
     record { board = w.board_same; model = w.model-is; moved = w.progress }
 
-pub returns-else-is-within : goal.returns-else-is-within
-returns-else-is-within c =
+pub returns-else-is_within : goal.returns-else-is_within
+returns-else-is_within c =
     let d = c.args.self.now in
-    let e = c.take-out-left.ensures in
-    let w = bar-kills d c.args.set c.args.mask c.if-set-self.false (λ z. c.if-left-was.false (e ∙ z)) (ap (within (get_or d.lo c.args.set 0)) (sym e) ∙ sym c.is-within.ensures ∙ c.if-is-within.false) _ _ c.kill.ensures.board c.kill.ensures.model in
+    let e = c.take_out-left.ensures in
+    let w = bar-kills d c.args.set c.args.mask c.if-set-self.false (λ z. c.if-left-was.false (e ∙ z)) (ap (within (get_or d.lo c.args.set 0)) (sym e) ∙ sym c.is_within.ensures ∙ c.if-is_within.false) _ _ c.kill.ensures.board c.kill.ensures.model in
     record { board = w.board_same; model = w.model-is; moved = w.progress }

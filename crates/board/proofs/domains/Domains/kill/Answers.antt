@@ -4,8 +4,8 @@ use Rattle.board.specs.Model.{board}
 use Rattle.board.proofs.Shapes.{zeros, zero-below, dead-of}
 use Rattle.board.proofs.domains.Domains.kill.Goals as goal
 
-pub invariant-of-self : goal.invariant-of-self
-invariant-of-self c = (
+pub invariant_of-self : goal.invariant_of-self
+invariant_of-self c = (
   c.args.self.now.sized,
   (
     (refl, refl, refl),

@@ -14,8 +14,8 @@ returns-then-left-was c =
     let w = limit-none c.args.self.now c.args.sensor c.args.mask c.if-sensor-self.false c.if-left-was.true in
     record { board = w.board_same; model = w.model-is; moved = w.progress }
 
-pub invariant-of-self : goal.invariant-of-self
-invariant-of-self c =
+pub invariant_of-self : goal.invariant_of-self
+invariant_of-self c =
     limit-rows c.args.self.now c.args.sensor c.args.mask _ c.if-sensor-self.false refl
     (limit-left c.args.self.now c.args.sensor c.args.mask c.if-sensor-self.false c.if-left-was.false c.if-left-eq0.false)
 

@@ -8,8 +8,8 @@ use Rattle.plan.proofs.draft.Draft.post.Goals as goal
 pub put-requires : goal.put-requires
 put-requires g c = has-place c.args.self.now.places.now c.args.self.now.count most_places _ _ c.in-Ok.ensures c.room.ensures
 
-pub overflow-add-self : goal.overflow-add-self
-overflow-add-self g c =
+pub overflow_add-self : goal.overflow_add-self
+overflow_add-self g c =
     let h : c.args.self.now.count < length c.args.self.now.places.now = has-place c.args.self.now.places.now c.args.self.now.count most_places _ _ c.in-Ok.ensures c.room.ensures in
     search rules
 

@@ -12,7 +12,7 @@ pub returns : goal.returns
 returns g c =
     let s = c.args.self in
     let xs = s.places.now in
-    let e = c.settle-table.ensures in
+    let e = c.settle_table.ensures in
     record {
       lent = search rules;
       places = search rules;

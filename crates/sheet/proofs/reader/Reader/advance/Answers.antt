@@ -3,8 +3,8 @@ use Rattle.sheet.specs.Steps.{meant}
 use Rattle.sheet.proofs.Records.{found}
 use Rattle.sheet.proofs.reader.Reader.advance.Goals as goal
 
-pub overflow-add-self : goal.overflow-add-self
-overflow-add-self c =
+pub overflow_add-self : goal.overflow_add-self
+overflow_add-self c =
     let xs = c.args.self.now.file.now in
     let at = c.args.self.now.at in
     let rest = c.rest-rest.result.now in

@@ -7,7 +7,7 @@ use Rattle.sheet.proofs.writer.Writer.begin.Goals as goal
 pub returns : goal.returns
 unfolding version
 returns c =
-    let z = c.if-is-empty.ensures in
+    let z = c.if-is_empty.ensures in
     let s : 0 < length c.args.out.now = grind (arith, nat_tests) in
     let e = set_split c.args.out.now 0 1 s in
     record { whole = ap (take 1) e; value = (s, e, refl) }
