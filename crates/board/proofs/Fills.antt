@@ -12,6 +12,7 @@ use Rattle.model.proofs.Boxes.{live-true}
 use Rattle.model.proofs.Full.{full-live}
 use Rattle.model.proofs.Lists.{tab-at, tab-length}
 use Rattle.board.specs.Shape.{Canon, Fitted, Long, Padded, box_of}
+use Rattle.board.proofs.Rows.{Rows}
 use Rattle.board.proofs.Shapes.{zeros}
 
 pub record Filled (f : ℕ → ℕ) (long i : ℕ) (xs : List ℕ) : Type 0 where
@@ -55,20 +56,11 @@ module _ (bd : Board) (z : Sized bd.sensors bd.slots bd.sets bd.kinds) (c h : Li
   alive : live bd (box_of bd c empty h) ≡ true
   alive = ap (live bd) box-full ∙ live-true bd z.0.0 (full bd) (full-live bd z.1.0)
 
-  pub full-rows : Sized bd.sensors bd.slots bd.sets bd.kinds × (Long c empty h × (Padded bd c empty h × (Fitted bd c h × (Canon bd c empty h × Unit {0}))))
-  full-rows = (
-    z,
-    (
-      (fc.many, length-replicate {A = ℕ} most_sets 0, fh.many),
-      (
-        (fc.past, (λ j _. zeros most_sets j), fh.past),
-        (
-          ((λ i r. subst (λ m. m < 2 ^ bd.slots) (sym (fc.at i r)) (ones_lt bd.slots)), (λ j r. subst (λ m. m < 2 ^ room bd j) (sym (fh.at j r)) (ones_lt (room bd j)))),
-          (
-            ((λ i e. absurd (both_ways _ e alive)), (λ i e. absurd (both_ways _ e alive)), (λ i e. absurd (both_ways _ e alive))),
-            tt,
-          ),
-        ),
-      ),
-    ),
-  )
+  pub full-rows : Rows bd c empty h
+  full-rows = record {
+    sized = z;
+    long = (fc.many, length-replicate {A = ℕ} most_sets 0, fh.many);
+    padded = (fc.past, (λ j _. zeros most_sets j), fh.past);
+    fitted = ((λ i r. subst (λ m. m < 2 ^ bd.slots) (sym (fc.at i r)) (ones_lt bd.slots)), (λ j r. subst (λ m. m < 2 ^ room bd j) (sym (fh.at j r)) (ones_lt (room bd j))));
+    canon = ((λ i e. absurd (both_ways _ e alive)), (λ i e. absurd (both_ways _ e alive)), (λ i e. absurd (both_ways _ e alive)));
+  }

@@ -15,6 +15,7 @@ use Rattle.model.proofs.Narrowing.{live-kept, narrow-same, no-live, progress-ent
 use Rattle.model.proofs.Tight.{dead-stays}
 use Rattle.board.specs.Model.{board, model}
 use Rattle.board.specs.Shape.{Beyond, Canon, Fitted, Long, Padded, box_of}
+use Rattle.board.proofs.Rows.{Rows}
 use Rattle.board.proofs.Shapes.{cand-of, hi_of, is-kept, lo-of, some}
 use Rattle.board.specs.declared.domains.Domains.{Domains}
 
@@ -78,7 +79,7 @@ module _ (d : Domains) where
   -- ---- the rows after a write, with what a stored box keeps
 
   abbrev Stored : List ℕ → List ℕ → List ℕ → Type 0
-  Stored c l h = Sized d.sensors d.slots d.sets d.kinds × (Long c l h × (Padded (board d) c l h × (Fitted (board d) c h × (Canon (board d) c l h × Unit {0}))))
+  Stored c l h = Rows (board d) c l h
 
   -- a live box has no zeros to keep
   live-canon : (c l h : List ℕ) (b : Box) → box_of (board d) c l h ≡ b → live (board d) b ≡ true → Canon (board d) c l h
@@ -94,22 +95,13 @@ module _ (d : Domains) where
         λ k. record { cands = w k; lows = take (board d).sets d.lo; highs = take (board d).sets d.hi }
 
     pub limit-rows : live (board d) (cut (limit i m) (model d)) ≡ true → Stored (set d.cands i v) d.lo d.hi
-    limit-rows w = (
-      d.sized,
-      (
-        (length-set d.cands i v ∙ d.long.0, d.long.1, d.long.2),
-        (
-          (beyond-set (board d).sensors d.cands i v r d.padded.0, d.padded.1, d.padded.2),
-          (
-            (at-put (λ k w. w < 2 ^ (board d).slots) (board d).sensors d.cands i v (omega (arith, d.long.0, d.sized.0.1)) (omega (arith, e, and_le_l (get_or d.cands i 0) m, d.fitted.0 i r)) d.fitted.0, d.fitted.1),
-            (
-              live-canon _ _ _ _ limit-box w,
-              tt,
-            ),
-          ),
-        ),
-      ),
-    )
+    limit-rows w = record {
+      sized = d.sized;
+      long = (length-set d.cands i v ∙ d.long.0, d.long.1, d.long.2);
+      padded = (beyond-set (board d).sensors d.cands i v r d.padded.0, d.padded.1, d.padded.2);
+      fitted = (at-put (λ k w. w < 2 ^ (board d).slots) (board d).sensors d.cands i v (omega (arith, d.long.0, d.sized.0.1)) (omega (arith, e, and_le_l (get_or d.cands i 0) m, d.fitted.0 i r)) d.fitted.0, d.fitted.1);
+      canon = live-canon _ _ _ _ limit-box w;
+    }
 
   module _ (j m v : ℕ) (r : j < (board d).sets) where
     pub claim-box : v ≡ bit_or (get_or d.lo j 0) m → box_of (board d) d.cands (set d.lo j v) d.hi ≡ cut (claim j m) (model d)
@@ -119,22 +111,13 @@ module _ (d : Domains) where
         λ k. record { cands = take (board d).sensors d.cands; lows = w k; highs = take (board d).sets d.hi }
 
     pub claim-rows : v ≡ bit_or (get_or d.lo j 0) m → live (board d) (cut (claim j m) (model d)) ≡ true → Stored d.cands (set d.lo j v) d.hi
-    claim-rows e w = (
-      d.sized,
-      (
-        (d.long.0, length-set d.lo j v ∙ d.long.1, d.long.2),
-        (
-          (d.padded.0, beyond-set (board d).sets d.lo j v r d.padded.1, d.padded.2),
-          (
-            d.fitted,
-            (
-              live-canon _ _ _ _ (claim-box e) w,
-              tt,
-            ),
-          ),
-        ),
-      ),
-    )
+    claim-rows e w = record {
+      sized = d.sized;
+      long = (d.long.0, length-set d.lo j v ∙ d.long.1, d.long.2);
+      padded = (d.padded.0, beyond-set (board d).sets d.lo j v r d.padded.1, d.padded.2);
+      fitted = d.fitted;
+      canon = live-canon _ _ _ _ (claim-box e) w;
+    }
 
     pub bar-box : v ≡ without (get_or d.hi j 0) m → box_of (board d) d.cands d.lo (set d.hi j v) ≡ cut (bar j m) (model d)
     unfolding cut
@@ -143,22 +126,13 @@ module _ (d : Domains) where
         λ k. record { cands = take (board d).sensors d.cands; lows = take (board d).sets d.lo; highs = w k }
 
     pub bar-rows : v ≡ without (get_or d.hi j 0) m → live (board d) (cut (bar j m) (model d)) ≡ true → Stored d.cands d.lo (set d.hi j v)
-    bar-rows e w = (
-      d.sized,
-      (
-        (d.long.0, d.long.1, length-set d.hi j v ∙ d.long.2),
-        (
-          (d.padded.0, d.padded.1, beyond-set (board d).sets d.hi j v r d.padded.2),
-          (
-            (d.fitted.0, at-put (λ k w. w < 2 ^ room (board d) k) (board d).sets d.hi j v (omega (arith, d.long.2, d.sized.2.0)) (omega (arith, e, d.fitted.1 j r)) d.fitted.1),
-            (
-              live-canon _ _ _ _ (bar-box e) w,
-              tt,
-            ),
-          ),
-        ),
-      ),
-    )
+    bar-rows e w = record {
+      sized = d.sized;
+      long = (d.long.0, d.long.1, length-set d.hi j v ∙ d.long.2);
+      padded = (d.padded.0, d.padded.1, beyond-set (board d).sets d.hi j v r d.padded.2);
+      fitted = (d.fitted.0, at-put (λ k w. w < 2 ^ room (board d) k) (board d).sets d.hi j v (omega (arith, d.long.2, d.sized.2.0)) (omega (arith, e, d.fitted.1 j r)) d.fitted.1);
+      canon = live-canon _ _ _ _ (bar-box e) w;
+    }
 
 -- ---- the cases of each write, by what the code tests
 

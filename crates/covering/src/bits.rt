@@ -1,4 +1,4 @@
-ghost use Rattle.std.specs.Prelude.{◌≡◌, ◌%◌, ◌^◌, MatchOption, bit_or};
+ghost use Rattle.std.specs.Prelude.{◌≡◌, ◌%◌, ◌^◌, ◌<◌, MatchOption, bit_or};
 ghost use Rattle.masks.specs.Masks.{without};
 ghost use Rattle.covering.specs.Matching.{Parted};
 
@@ -35,14 +35,16 @@ pub fn single(i: Note) -> u64
 
 /// The mask with number i taken in, which counts modulo 64.
 pub fn with(mask: u64, i: Note) -> u64
-    ensures { result ≡ bit_or mask (2 ^ (i % 64)) }
+    ensures any { result ≡ bit_or mask (2 ^ (i % 64)) }
+    ensures low { i < 64 → result ≡ bit_or mask (2 ^ i) }
 {
     mask | single(i)
 }
 
 /// The mask with number i taken out, which counts modulo 64.
 pub fn drop_one(mask: u64, i: Note) -> u64
-    ensures { result ≡ without mask (2 ^ (i % 64)) }
+    ensures any { result ≡ without mask (2 ^ (i % 64)) }
+    ensures low { i < 64 → result ≡ without mask (2 ^ i) }
 {
     take_out(mask, single(i))
 }

@@ -1,5 +1,5 @@
 ghost use Rattle.std.specs.Prelude.{◌^◌, ◌<◌};
-ghost use Rattle.covering.specs.Matching.{Noted, Owned, Returned, Bare, Marked, Busy, Long};
+ghost use Rattle.covering.specs.Matching.{Noted, Owned, Returned, Bare, Marked, Long};
 
 /// The number of a sensor or of a slot, or `NONE`.
 pub type Note = u8;
@@ -28,7 +28,6 @@ pub struct Notes {
     ghost returned: { Returned pairs.notes pairs.owner },
     ghost bare: { Bare pairs.claimed pairs.notes },
     ghost marked: { Marked pairs.owner },
-    ghost busy: { Busy pairs.sensors pairs.idle pairs.owner },
     ghost sized: { pairs.sensors < 2 ^ 64 },
     ghost long: { Long pairs.notes pairs.owner },
 }

@@ -1,11 +1,12 @@
 ghost use Rattle.std.specs.Prelude.{ℕ, Bool, MatchOption};
 ghost use Rattle.covering.specs.Covering.{candidate, Short};
+ghost use Rattle.covering.specs.Notes.{NotesOf};
 ghost use Rattle.covering.specs.Roles.{Plays};
 ghost use Rattle.range.specs.Judged.{Looked, Judged};
 
 use covering::bits::{split, with};
-use covering::cover::cover;
-use covering::notes::Role;
+use covering::cover::{cover, spare};
+use covering::notes::{Notes, Role};
 use masks::contains;
 use spares::spares::{role, spare_all};
 
@@ -16,9 +17,17 @@ pub struct Seen {
     pub bound: bool,
 }
 
+/// Looks at sensor i with the candidates `own`. One that every covering uses keeps the slots that coverings give it; of the others those in
+/// `lower` keep the slots of `upper`, and the rest keep all.
+pub fn look(notes: &Notes, own: u64, lower: u64, upper: u64, i: u8) -> Seen
+    ensures { (can : ℕ → ℕ → Bool) (sensors claimed : ℕ) → NotesOf can sensors claimed notes.now → Looked can sensors claimed lower upper own result.slots i result.bound }
+{
+    seen_by(spare(notes, i), own, lower, upper, i)
+}
+
 /// What sensor i with the candidates `own` keeps, by its role. One that every covering uses keeps the slots that coverings give it; of the others those in
 /// `lower` keep the slots of `upper`, and the rest keep all.
-pub fn look(role: Role, own: u64, lower: u64, upper: u64, i: u8) -> Seen
+pub fn seen_by(role: Role, own: u64, lower: u64, upper: u64, i: u8) -> Seen
     ensures { (can : ℕ → ℕ → Bool) (sensors claimed : ℕ) → Plays can sensors claimed i role → Looked can sensors claimed lower upper own result.slots i result.bound }
 {
     match role {
@@ -72,7 +81,7 @@ pub fn judge(
     while let Some((i, rest)) = split(left) {
         left = rest;
         let own = cands[i as usize];
-        let seen = look(role(&spares, i), own, lower, upper, i);
+        let seen = seen_by(role(&spares, i), own, lower, upper, i);
         keep[i as usize] = seen.slots;
         if seen.bound {
             bound = with(bound, i);

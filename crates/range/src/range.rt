@@ -1,4 +1,4 @@
-ghost use Rattle.std.specs.Prelude.{◌≡◌, MatchResult};
+ghost use Rattle.std.specs.Prelude.{◌≡◌, true, MatchResult};
 ghost use Rattle.model.specs.Box.{slotted};
 ghost use Rattle.model.specs.Refusals.{refusal};
 ghost use Rattle.model.specs.Settled.{Progress};
@@ -15,7 +15,7 @@ use crate::read::look_up;
 use crate::survey::sure;
 use board::domains::Domains;
 use board::refusal::Refusal;
-use covering::cover::{cover, spare};
+use covering::cover::cover;
 use masks::{contains, is_below, is_within};
 use rule::Rule;
 
@@ -106,7 +106,7 @@ fn gives(d: &Domains, g: u64, s: u8, t: u8, sensor: u8, slot: u8) -> bool
     match cover(&was.cands, was.sensors, was.claimed) {
         Ok(notes) => {
             let seen = look(
-                spare(&notes, sensor),
+                &notes,
                 d.candidates(sensor),
                 was.lower,
                 was.upper,
@@ -118,8 +118,17 @@ fn gives(d: &Domains, g: u64, s: u8, t: u8, sensor: u8, slot: u8) -> bool
     }
 }
 
-// Whether some support gives the sensor the slot, by a search for this sensor alone. A sensor or slot off the board has none.
-pub fn supported(d: &Domains, rule: &Range, sensor: u8, slot: u8) -> Result<bool, Refusal>
+// Whether some support gives the sensor the slot.
+pub fn supported(d: &Domains, rule: &Range, sensor: u8, slot: u8) -> bool
+    requires { range_fault (board d.now) rule.now ≡ 0 }
+    ensures used { result ≡ true → Supported (board d.now) (range_holds (board d.now) rule.now) (model d.now) (slotted sensor slot) }
+    ensures found { Supported (board d.now) (range_holds (board d.now) rule.now) (model d.now) (slotted sensor slot) → result ≡ true }
+{
+    gives(d, rule.g, rule.s, rule.t, sensor, slot)
+}
+
+// The same, or the refusal of a rule that does not fit. A sensor or slot off the board has no support.
+pub fn checked_supported(d: &Domains, rule: &Range, sensor: u8, slot: u8) -> Result<bool, Refusal>
     ensures { MatchResult result (λ b. (range_fault (board d.now) rule.now ≡ 0) × Tells b (Supported (board d.now) (range_holds (board d.now) rule.now) (model d.now) (slotted sensor slot))) (λ e. number e ≡ range_fault (board d.now) rule.now) }
 {
     match rule.fit(d) {

@@ -6,6 +6,7 @@ use Rattle.masks.specs.Masks.{has, without, past}
 use Rattle.masks.proofs.Masks.{has-and, has-zero, has-below}
 use Rattle.masks.proofs.Ends.{past_all}
 use Rattle.covering.specs.Covering.{Avoidable, Needed, candidate}
+use Rattle.covering.specs.Matching.{Busy}
 use Rattle.covering.specs.Notes.{NotesOf, sensor_of}
 use Rattle.covering.specs.declared.notes.Notes.{Notes}
 use Rattle.covering.proofs.Coverings.{idle-avoidable, outside, unowned}
@@ -22,8 +23,8 @@ module _ (n : Notes) (small : n.pairs.claimed < 2 ^ 64) (cands : List ℕ)
   unslotted : (j : ℕ) → get_or n.pairs.owner j 0 ≡ 64 → Idle n.pairs.claimed (sensor_of n) j
   unslotted j z = unowned j (matching n) small z
 
-  unused : (j : ℕ) → has n.pairs.sensors j ≡ true → get_or n.pairs.owner j 0 ≡ 64 → has n.pairs.idle j ≡ true
-  unused j s z = elim (cases_Bool (has n.pairs.idle j)) [ inl t ↦ t | inr f ↦ absurd (omega (arith, n.busy j s f)) ]
+  unused : Busy n.pairs.sensors n.pairs.idle n.pairs.owner → (j : ℕ) → has n.pairs.sensors j ≡ true → get_or n.pairs.owner j 0 ≡ 64 → has n.pairs.idle j ≡ true
+  unused b j s z = elim (cases_Bool (has n.pairs.idle j)) [ inl t ↦ t | inr f ↦ absurd (omega (arith, b j s f)) ]
 
   idle-or-on : (j : ℕ) → has n.pairs.sensors j ≡ true
       → Idle n.pairs.claimed (sensor_of n) j ⊎ ((w : ℕ) × (has n.pairs.claimed w ≡ true) × (sensor_of n w ≡ j))
@@ -31,13 +32,13 @@ module _ (n : Notes) (small : n.pairs.claimed < 2 ^ 64) (cands : List ℕ)
 
   -- ---- the free slots
 
-  pub freed-offered : {found : ℕ} → Offered cands n.pairs.owner (bit_and n.pairs.sensors n.pairs.idle) n.pairs.claimed 0 found
+  pub freed-offered : {found : ℕ} → Busy n.pairs.sensors n.pairs.idle n.pairs.owner → Offered cands n.pairs.owner (bit_and n.pairs.sensors n.pairs.idle) n.pairs.claimed 0 found
       → Freed (candidate cands) n.pairs.sensors n.pairs.claimed (sensor_of n) (without n.pairs.claimed n.pairs.claimed) found
-  freed-offered h = freed-start o.covers
+  freed-offered b h = freed-start o.covers
       (λ v e. let p = less-only n.pairs.claimed n.pairs.claimed v e in both_ways _ p.1 p.0)
       (λ u e. let q = h.from u e in (q.0, (and_parts _ _ (sym (has-and n.pairs.sensors n.pairs.idle q.0) ∙ q.1)).0, unslotted q.0 q.2, q.3, q.4))
       (λ j u s idle k t. elim (owns n j (sensors-low n j s)) [
-        | inl z ↦ h.all j u (has-and n.pairs.sensors n.pairs.idle j ∙ and_from _ _ s (unused j s z)) (has-zero j) z k t
+        | inl z ↦ h.all j u (has-and n.pairs.sensors n.pairs.idle j ∙ and_from _ _ s (unused b j s z)) (has-zero j) z k t
         | inr q ↦ absurd (idle q.0 q.1 q.2)
       ])
 

@@ -1,5 +1,6 @@
 ghost use Rattle.std.specs.Prelude.{ℕ, bit_and};
 ghost use Rattle.covering.specs.Covering.{candidate};
+ghost use Rattle.covering.specs.Matching.{Busy};
 ghost use Rattle.covering.specs.Notes.{NotesOf, sensor_of};
 ghost use Rattle.spares.specs.Free.{Offered, Freed};
 
@@ -28,8 +29,9 @@ fn offered(notes: &Notes, cands: &[u64; 64]) -> u64
 
 /// The claimed slots whose sensor some covering leaves out. A sensor without a slot can take a slot of its candidates over, and the sensor that
 /// had it is then left out; or that one takes a slot over in turn. Done as soon as these are all.
+/// It looks at idle sensors alone, so it is exact where all others have a slot.
 pub fn spared(notes: &Notes, cands: &[u64; 64]) -> u64
-    ensures { (sensors claimed : ℕ) → NotesOf (candidate cands.now) sensors claimed notes.now → Freed (candidate cands.now) sensors claimed (sensor_of notes.now) result result }
+    ensures { (sensors claimed : ℕ) → NotesOf (candidate cands.now) sensors claimed notes.now → Busy notes.now.pairs.sensors notes.now.pairs.idle notes.now.pairs.owner → Freed (candidate cands.now) sensors claimed (sensor_of notes.now) result result }
 {
     let claimed = notes.pairs.claimed;
     let mut free = offered(notes, cands);

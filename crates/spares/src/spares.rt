@@ -1,6 +1,7 @@
 ghost use Rattle.std.specs.Prelude.{◌≡◌, ℕ, Bool, true};
 ghost use Rattle.masks.specs.Masks.{has};
 ghost use Rattle.covering.specs.Covering.{candidate};
+ghost use Rattle.covering.specs.Matching.{Busy};
 ghost use Rattle.covering.specs.Notes.{NotesOf, sensor_of};
 ghost use Rattle.covering.specs.Roles.{Plays};
 ghost use Rattle.spares.specs.Rows.{Rowed};
@@ -38,9 +39,9 @@ fn rows(notes: &Notes, cands: &[u64; 64], slots: u64) -> [u64; 64]
     rows
 }
 
-/// Looks at all sensors at once.
+/// Looks at all sensors at once, in a covering where all sensors but the idle ones have a slot.
 pub fn spare_all(notes: &Notes, cands: &[u64; 64]) -> Spares
-    ensures { (sensors claimed : ℕ) → NotesOf (candidate cands.now) sensors claimed notes.now → SparesOf (candidate cands.now) sensors claimed result }
+    ensures { (sensors claimed : ℕ) → NotesOf (candidate cands.now) sensors claimed notes.now → Busy notes.now.pairs.sensors notes.now.pairs.idle notes.now.pairs.owner → SparesOf (candidate cands.now) sensors claimed result }
 {
     let bound = take_out(notes.pairs.claimed, spared(notes, cands));
     if bound == 0 {

@@ -35,7 +35,8 @@ invariant_of-result c =
     let bd = board_of c.args.n c.args.m c.args.k c.args.kinds in
     let e : c.loop-j.j ≡ c.args.k = search rules in
     let fh = subst (λ z. Filled (λ j. 2 ^ room bd j - 1) most_sets z c.loop-j.hi) e c.loop-j.invariant.1 in
-    full-rows bd c.requires _ _ c.loop-j.invariant.0 fh
+    let r = full-rows bd c.requires _ _ c.loop-j.invariant.0 fh in
+    record { sized = r.sized; long = r.long; padded = r.padded; fitted = r.fitted; canon = r.canon }
 
 pub returns : goal.returns
 returns c =

@@ -10,5 +10,5 @@ returns-in-Some c =
     record {
       low = p.low;
       member = (and_parts _ _ (sym (has-and c.args.mask c.args.rather c.in-Some.i) ∙ p.member)).0;
-      others = drop-low _ c.in-Some.i p.low c.drop_one.ensures;
+      others = drop-low _ c.in-Some.i p.low c.drop_one.ensures.any;
     }

@@ -56,13 +56,21 @@ returns-in-Err c =
     let s : Short (candidate c.args.cands.now) c.args.sensors c.args.claimed c.in-Err.group =
     under-short h.2 (search rules) c.in-Some.ensures.member
     (tells c.args.cands.now c.args.sensors c.args.claimed _ _ (search rules) h.0 c.takers_of-takers.ensures) c.in-Err.ensures in
-    (s, short-uncoverable s)
+    record { covers = (s, short-uncoverable s); busy = tt }
 
 pub invariant_of-result : goal.invariant_of-result
 invariant_of-result c =
     let m = c.loop-w.invariant.2.matching in
     let sized : c.args.sensors < 2 ^ 64 = search rules in
-    (m.noted, (m.owned, (m.returned, (m.bare, (m.marked, (c.loop-w.invariant.3, (subst (λ (x : ℕ). x < 2 ^ 64) (sym c.loop-w.invariant.1) sized, (m.long, tt))))))))
+    record {
+      noted = m.noted;
+      owned = m.owned;
+      returned = m.returned;
+      bare = m.bare;
+      marked = m.marked;
+      sized = subst (λ (x : ℕ). x < 2 ^ 64) (sym c.loop-w.invariant.1) sized;
+      long = m.long;
+    }
 
 pub returns : goal.returns
 returns c =
@@ -70,4 +78,4 @@ returns c =
     let z = c.in_default.ensures in
     let t = tells c.args.cands.now c.args.sensors c.args.claimed _ _ (search rules) h.0 c.takers_of-takers.ensures in
     let k = under-covering h.2 z h.1 t in
-    record { among = h.1; slots = under_all z h.2; takers = t; covers = k.0; bare = k.1 }
+    record { covers = record { among = h.1; slots = under_all z h.2; takers = t; covers = k.0; bare = k.1 }; busy = h.3 }

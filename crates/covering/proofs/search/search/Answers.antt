@@ -8,7 +8,7 @@ use Rattle.covering.proofs.search.search.Goals.{in_default, in-Some+in-Some-spli
 
 pub search-init : goal.search-init
 search-init c =
-    simp (with-low 0 c.args.w c.requires.low c.with-reached.ensures)
+    simp (with-low 0 c.args.w c.requires.low c.with-reached.ensures.any)
     (start c.args.pairs.now.takers c.args.pairs.now.owner c.args.sensors c.args.w _ c.requires.low (search rules))
 
 pub loop-i-init : goal.loop-i-init
@@ -25,7 +25,7 @@ loop-i-preserved c =
     let r = c.loop-i.invariant.0 in
     let p = c.in-Some-split_by.ensures in
     let l = round-slot r p c.requires.owners c.if-v-eq-NONE.false in
-    simp (with-low _ _ l c.with-reached-in-Some-split_by.ensures, with-low _ _ l c.with-pending.ensures)
+    simp (with-low _ _ l c.with-reached-in-Some-split_by.ensures.any, with-low _ _ l c.with-pending.ensures.any)
     (round-seen r p c.requires.owners l, round_same r p c.requires.owners l ∙ c.loop-i.invariant.1)
 
 pub search-smaller : goal.search-smaller
@@ -35,10 +35,10 @@ search-smaller c =
     let none : ones (bit_or u c.loop-i.fresh) ≡ ones u = ap (λ (x : ℕ). ones (bit_or u x)) c.in_default-split_by.ensures ∙ ap ones (or_zero_r u) in
     let all : ones (bit_or u (bit_and (get_or c.args.pairs.now.takers c.in-Some.u 0) c.search.unseen)) ≡ ones c.search.unseen =
     simp c.take_out-unseen.ensures (round-level c.search.unseen (get_or c.args.pairs.now.takers c.in-Some.u 0)) in
-    simp (drop-low _ c.in-Some.u c.in-Some.ensures.low c.drop_one-pending.ensures) (omega (arith, c.loop-i.invariant.1))
+    simp (drop-low _ c.in-Some.u c.in-Some.ensures.low c.drop_one-pending.ensures.any) (omega (arith, c.loop-i.invariant.1))
 
 pub search-preserved : goal.search-preserved
-search-preserved c = simp (drop-low _ c.in-Some.u c.in-Some.ensures.low c.drop_one-pending.ensures) (round-end c.loop-i.invariant.0 c.in_default-split_by.ensures)
+search-preserved c = simp (drop-low _ c.in-Some.u c.in-Some.ensures.low c.drop_one-pending.ensures.any) (round-end c.loop-i.invariant.0 c.in_default-split_by.ensures)
 
 pub returns-in-Some-free : goal.returns-in-Some-free
 returns-in-Some-free c = elim c.match-split.branch [

@@ -16,10 +16,10 @@ loop-i-preserved-then-seen c =
     let n = c.in-Some.ensures in
     let i = c.in-Some.i in
     let cands = c.args.cands.now in
-    let r = c.look-seen.result in
-    simp (n.others, with-low _ i n.low c.with-bound.ensures) (judged-held i n.low n.member c.loop-i.invariant r.slots
+    let r = c.seen_by-seen.result in
+    simp (n.others, with-low _ i n.low c.with-bound.ensures.any) (judged-held i n.low n.member c.loop-i.invariant r.slots
     (subst (Looked (candidate cands) c.args.sensors c.args.claimed c.args.lower c.args.upper (get_or cands i 0) r.slots i) c.if-seen.true
-    (c.look-seen.ensures (candidate cands) c.args.sensors c.args.claimed (c.role.ensures (candidate cands) c.args.sensors c.args.claimed (c.spare_all-spares.ensures c.args.sensors c.args.claimed c.in-Ok.ensures)))))
+    (c.seen_by-seen.ensures (candidate cands) c.args.sensors c.args.claimed (c.role.ensures (candidate cands) c.args.sensors c.args.claimed (c.spare_all-spares.ensures c.args.sensors c.args.claimed c.in-Ok.ensures.covers c.in-Ok.ensures.busy)))))
 
 pub loop-i-smaller : goal.loop-i-smaller
 loop-i-smaller c = simp c.in-Some.ensures.others (fewer-left c.loop-i.left c.in-Some.i c.in-Some.ensures.member)
@@ -29,10 +29,10 @@ loop-i-preserved c =
     let n = c.in-Some.ensures in
     let i = c.in-Some.i in
     let cands = c.args.cands.now in
-    let r = c.look-seen.result in
+    let r = c.seen_by-seen.result in
     simp n.others (judged-freed i n.low n.member c.loop-i.invariant r.slots
     (subst (Looked (candidate cands) c.args.sensors c.args.claimed c.args.lower c.args.upper (get_or cands i 0) r.slots i) c.if-seen.false
-    (c.look-seen.ensures (candidate cands) c.args.sensors c.args.claimed (c.role.ensures (candidate cands) c.args.sensors c.args.claimed (c.spare_all-spares.ensures c.args.sensors c.args.claimed c.in-Ok.ensures)))))
+    (c.seen_by-seen.ensures (candidate cands) c.args.sensors c.args.claimed (c.role.ensures (candidate cands) c.args.sensors c.args.claimed (c.spare_all-spares.ensures c.args.sensors c.args.claimed c.in-Ok.ensures.covers c.in-Ok.ensures.busy)))))
 
 pub returns : goal.returns
 returns c = judged-all c.in_default.ensures c.loop-i.invariant

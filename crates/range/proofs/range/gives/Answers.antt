@@ -40,7 +40,7 @@ returns-in-Err c =
     let fit = range-fits (board d) k.g k.s k.t c.requires in
     let was = c.look_up-was.result in
     let w = c.look_up-was.ensures in
-    let z = c.in-Err.ensures.0 in
+    let z = c.in-Err.ensures.covers.0 in
     let short = subst (λ (u : ℕ). Short (candidate was.cands) was.sensors u c.in-Err.field-0) w.claimed_is z in
     record {
       used = λ e. absurd (false≢true e);
@@ -60,7 +60,7 @@ returns-in-Ok c =
     let r = c.look-seen.result in
     let yes : within (lo x k.s) was.sensors ≡ true = ap (λ (u : ℕ). within u was.sensors) (sym w.lower_is) ∙ sym c.if-not-is_within.ensures in
     let h = looked (candidate was.cands) was.sensors r.slots i r.bound was.claimed was.lower was.upper c.candidates.result (lo x k.t) (lo x k.s) (hi x k.t) (cand x i)
-    w.claimed_is w.lower_is w.upper-is c.candidates.ensures (c.look-seen.ensures (candidate was.cands) was.sensors was.claimed (c.spare.ensures (candidate was.cands) was.sensors was.claimed c.in-Ok.ensures)) in
+    w.claimed_is w.lower_is w.upper_is c.candidates.ensures (c.look-seen.ensures (candidate was.cands) was.sensors was.claimed c.in-Ok.ensures.covers) in
     record {
       used = λ e. slot-used (board d) (some d) k.g k.s k.t fit x was.cands w.same was.sensors w.far (is-kept d) yes i c.args.slot r.slots r.bound h
           (sym c.contains.ensures ∙ e);

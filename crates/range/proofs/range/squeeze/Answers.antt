@@ -79,8 +79,8 @@ returns-in-Some c =
     record {
       board = e.board;
       model = range-tight (board d) (some d) g s t fit x was.cands w.same was.sensors w.far yes v.keep v.bound v.near sure
-          (said was.cands was.sensors _ _ _ (lo x t) (lo x s) (hi x t) v.keep v.bound v.near w.claimed_is w.lower_is w.upper-is c.in-Some.ensures)
-          (only was.cands sure _ _ (lo x s) (hi x t) w.lower_is w.upper-is c.sure-single.ensures)
+          (said was.cands was.sensors _ _ _ (lo x t) (lo x s) (hi x t) v.keep v.bound v.near w.claimed_is w.lower_is w.upper_is c.in-Some.ensures)
+          (only was.cands sure _ _ (lo x s) (hi x t) w.lower_is w.upper_is c.sure-single.ensures)
           (is-kept d) (model c.enter.new.d) (kept_on c.enter.new.d (board d) e.board)
           (subst (λ (u : ℕ). Entered (board d) s t was.sensors v.keep v.bound (bit_or u v.near) sure x (model c.enter.new.d)) w.claimed_is e.model);
       moved = e.moved;

@@ -11,7 +11,7 @@ loop-i-smaller-then-cands-i-ne0 c = simp c.in-Some.ensures.others (fewer-left c.
 
 pub loop-i-preserved-then-cands-i-ne0 : goal.loop-i-preserved-then-cands-i-ne0
 loop-i-preserved-then-cands-i-ne0 c =
-    simp (c.in-Some.ensures.others, with-low _ c.in-Some.i c.in-Some.ensures.low c.with-found.ensures) (able-in c.in-Some.i c.in-Some.ensures.member c.loop-i.invariant (ne_eqb _ 0 c.if-cands-i-ne0.true))
+    simp (c.in-Some.ensures.others, with-low _ c.in-Some.i c.in-Some.ensures.low c.with-found.ensures.any) (able-in c.in-Some.i c.in-Some.ensures.member c.loop-i.invariant (ne_eqb _ 0 c.if-cands-i-ne0.true))
 
 pub loop-i-smaller : goal.loop-i-smaller
 loop-i-smaller c = simp c.in-Some.ensures.others (fewer-left c.loop-i.left c.in-Some.i c.in-Some.ensures.member)

@@ -7,11 +7,11 @@ returns-then-stirred c =
     let f = c.settle_parts.ensures in
     let w = brought c.args.g c.args.s c.args.t c.args.d.now c.sweep-stirred.new.d c.settle_parts.new.d c.sweep-stirred.result c.settle_parts.result
     (record { board_same = e.board; result = e.model; progress = e.moved }) c.if-stirred.true f.board f.model f.moved in
-    record { board = w.board_same; model = w.model-is; moved = w.progress }
+    record { board = w.board_same; model = w.model_is; moved = w.progress }
 
 pub returns-else-stirred : goal.returns-else-stirred
 returns-else-stirred c =
     let e = c.sweep-stirred.ensures in
     let w = at_rest c.args.g c.args.s c.args.t c.args.d.now c.sweep-stirred.new.d c.sweep-stirred.result
     (record { board_same = e.board; result = e.model; progress = e.moved }) c.if-stirred.false in
-    record { board = w.board_same; model = w.model-is; moved = w.progress }
+    record { board = w.board_same; model = w.model_is; moved = w.progress }

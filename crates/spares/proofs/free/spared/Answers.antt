@@ -11,7 +11,7 @@ use Rattle.spares.proofs.Sharing.{freed-offered, freed-next, freed-last}
 use Rattle.spares.proofs.free.spared.Goals as goal
 
 pub loop-v-init : goal.loop-v-init
-loop-v-init c = (λ v e. e, λ o. freed-offered c.args.notes.now (search rules) c.args.cands.now o c.offered-free.ensures)
+loop-v-init c = (λ v e. e, λ o b. freed-offered c.args.notes.now (search rules) c.args.cands.now o b c.offered-free.ensures)
 
 -- a slot that is free and left is claimed
 pub bounds-cands-notes : goal.bounds-cands-notes
@@ -25,26 +25,26 @@ pub loop-v-smaller : goal.loop-v-smaller
 loop-v-smaller c =
     let v = c.in-Some.v in
     let p = and_parts _ _ (sym (has-and c.loop-v.free c.loop-v.left v) ∙ c.in-Some.ensures.member) in
-    simp (drop-low _ v c.in-Some.ensures.low c.drop_one-left.ensures) (fewer-left c.loop-v.left v p.1)
+    simp (drop-low _ v c.in-Some.ensures.low c.drop_one-left.ensures.any) (fewer-left c.loop-v.left v p.1)
 
 pub loop-v-preserved : goal.loop-v-preserved
 loop-v-preserved c =
     let v = c.in-Some.v in
-    simp (drop-low _ v c.in-Some.ensures.low c.drop_one-left.ensures) (
+    simp (drop-low _ v c.in-Some.ensures.low c.drop_one-left.ensures.any) (
       λ x e. c.loop-v.invariant.0 x (drop-only c.loop-v.left v x e),
-      λ o. freed-next c.args.notes.now (search rules) c.args.cands.now o c.loop-v.left v c.in-Some.ensures.member (c.loop-v.invariant.1 o),
+      λ o b. freed-next c.args.notes.now (search rules) c.args.cands.now o c.loop-v.left v c.in-Some.ensures.member (c.loop-v.invariant.1 o b),
     )
 
 pub returns-then-free-claimed : goal.returns-then-free-claimed
-returns-then-free-claimed c s k f =
+returns-then-free-claimed c s k f b =
     let n = c.args.notes.now in
     let cands = c.args.cands.now in
     at-notes (λ x y. Freed (candidate cands) x y (sensor_of n) c.loop-v.free c.loop-v.free) (candidate cands) s k n f (λ o.
-    freed-full c.if-free-claimed.true (c.loop-v.invariant.1 o))
+    freed-full c.if-free-claimed.true (c.loop-v.invariant.1 o b))
 
 pub returns : goal.returns
-returns c s k f =
+returns c s k f b =
     let n = c.args.notes.now in
     let cands = c.args.cands.now in
     at-notes (λ x y. Freed (candidate cands) x y (sensor_of n) c.loop-v.free c.loop-v.free) (candidate cands) s k n f (λ o.
-    freed-last n (search rules) cands o c.loop-v.left c.in_default.ensures (c.loop-v.invariant.1 o))
+    freed-last n (search rules) cands o c.loop-v.left c.in_default.ensures (c.loop-v.invariant.1 o b))

@@ -5,22 +5,13 @@ use Rattle.board.proofs.Shapes.{zeros, zero-below, dead-of}
 use Rattle.board.proofs.domains.Domains.kill.Goals as goal
 
 pub invariant_of-self : goal.invariant_of-self
-invariant_of-self c = (
-  c.args.self.now.sized,
-  (
-    (refl, refl, refl),
-    (
-      (λ i _. zeros most_sensors i, λ j _. zeros most_sets j, λ j _. zeros most_sets j),
-      (
-        (λ i _. zero-below most_sensors i _, λ j _. zero-below most_sets j _),
-        (
-          (λ i _. zeros most_sensors i, λ j _. zeros most_sets j, λ j _. zeros most_sets j),
-          tt,
-        ),
-      ),
-    ),
-  ),
-)
+invariant_of-self c = record {
+  sized = c.args.self.now.sized;
+  long = (refl, refl, refl);
+  padded = (λ i _. zeros most_sensors i, λ j _. zeros most_sets j, λ j _. zeros most_sets j);
+  fitted = (λ i _. zero-below most_sensors i _, λ j _. zero-below most_sets j _);
+  canon = (λ i _. zeros most_sensors i, λ j _. zeros most_sets j, λ j _. zeros most_sets j);
+}
 
 pub returns : goal.returns
 returns c =

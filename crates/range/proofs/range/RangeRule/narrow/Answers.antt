@@ -11,9 +11,9 @@ pub returns-in-Ok : goal.returns-in-Ok
 returns-in-Ok c =
     let e = c.squeeze.ensures in
     let w = ran range_fault range_run c.args.self.now c.args.d.now c.in-Ok.ensures e.board e.model e.moved in
-    record { board = w.board_same; model = w.model-is; moved = w.progress }
+    record { board = w.board_same; model = w.model_is; moved = w.progress }
 
 pub returns-in-Err : goal.returns-in-Err
 returns-in-Err c =
     let w = skipped range_fault range_run c.args.self.now c.args.d.now _ c.in-Err.ensures in
-    record { board = w.board_same; model = w.model-is; moved = w.progress }
+    record { board = w.board_same; model = w.model_is; moved = w.progress }

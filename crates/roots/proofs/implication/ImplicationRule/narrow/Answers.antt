@@ -13,9 +13,9 @@ returns-in-Ok c =
     let z = c.in-Ok.ensures in
     let e = c.infer.ensures in
     let w = ran implication_fault implication_run r d z e.board (e.model ∙ implication-tight (board d) (some d) r (sym z) (model d) (is-kept d)) e.moved in
-    record { board = w.board_same; model = w.model-is; moved = w.progress }
+    record { board = w.board_same; model = w.model_is; moved = w.progress }
 
 pub returns-in-Err : goal.returns-in-Err
 returns-in-Err c =
     let w = skipped implication_fault implication_run c.args.self.now c.args.d.now _ c.in-Err.ensures in
-    record { board = w.board_same; model = w.model-is; moved = w.progress }
+    record { board = w.board_same; model = w.model_is; moved = w.progress }

@@ -12,9 +12,9 @@ returns-in-Ok c =
     let z = c.in-Ok.ensures in
     let e = c.rest.ensures in
     let w = ran roots_fault roots_run r d z e.board (parts_run (board d) r (sym z) (model d) _ e.model) e.moved in
-    record { board = w.board_same; model = w.model-is; moved = w.progress }
+    record { board = w.board_same; model = w.model_is; moved = w.progress }
 
 pub returns-in-Err : goal.returns-in-Err
 returns-in-Err c =
     let w = skipped roots_fault roots_run c.args.self.now c.args.d.now _ c.in-Err.ensures in
-    record { board = w.board_same; model = w.model-is; moved = w.progress }
+    record { board = w.board_same; model = w.model_is; moved = w.progress }

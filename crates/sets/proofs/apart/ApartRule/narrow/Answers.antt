@@ -14,9 +14,9 @@ returns-in-Ok c =
     let z = c.in-Ok.ensures in
     let e = c.part.ensures in
     let w = ran apart_fault apart_run r d z e.board (e.model ∙ apart-tight (board d) (some d) r.a r.b (pair_fits (board d) r.a r.b (sym z)) (model d) (is-kept d)) e.moved in
-    record { board = w.board_same; model = w.model-is; moved = w.progress }
+    record { board = w.board_same; model = w.model_is; moved = w.progress }
 
 pub returns-in-Err : goal.returns-in-Err
 returns-in-Err c =
     let w = skipped apart_fault apart_run c.args.self.now c.args.d.now _ c.in-Err.ensures in
-    record { board = w.board_same; model = w.model-is; moved = w.progress }
+    record { board = w.board_same; model = w.model_is; moved = w.progress }

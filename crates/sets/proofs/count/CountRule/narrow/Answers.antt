@@ -18,9 +18,9 @@ returns-in-Ok c =
     let t = count-tight (board d) (some d) r.a r.least r.most f (model d) (is-kept d) in
     let after = narrowed (narrow (board d)) (count_entries r.a r.least r.most (model d)) (model d) in
     let w = ran count_fault count_run r d z e.board (◌∙◌ {b = after} e.model t) e.moved in
-    record { board = w.board_same; model = w.model-is; moved = w.progress }
+    record { board = w.board_same; model = w.model_is; moved = w.progress }
 
 pub returns-in-Err : goal.returns-in-Err
 returns-in-Err c =
     let w = skipped count_fault count_run c.args.self.now c.args.d.now _ c.in-Err.ensures in
-    record { board = w.board_same; model = w.model-is; moved = w.progress }
+    record { board = w.board_same; model = w.model_is; moved = w.progress }
