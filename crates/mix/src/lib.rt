@@ -30,9 +30,9 @@ pub fn play<'a, R: Rule + Copy>(
     answers: &mut [u8],
 ) -> Draft<'a, R>
     ensures lent { result.places.ghost_name ≡ draft.entry.places.ghost_name }
-    ensures plan { state result.plan result.places.now result.count false ≡ after fault run (calls_all steps.now) (state draft.entry.plan draft.entry.places.now draft.entry.count false) }
-    ensures answered { Answered fault run steps.now (state draft.entry.plan draft.entry.places.now draft.entry.count false) answers.new }
-    ensures leads { (h : List (Call R)) → Leads fault holds run h (state draft.entry.plan draft.entry.places.now draft.entry.count false) → Leads fault holds run (h ++ calls_all steps.now) (state result.plan result.places.now result.count false) }
+    ensures plan { state result.plan result.places.now result.count false ≡ after R.fault R.run (calls_all steps.now) (state draft.entry.plan draft.entry.places.now draft.entry.count false) }
+    ensures answered { Answered R.fault R.run steps.now (state draft.entry.plan draft.entry.places.now draft.entry.count false) answers.new }
+    ensures leads { (h : List (Call R)) → Leads R.fault R.holds R.run h (state draft.entry.plan draft.entry.places.now draft.entry.count false) → Leads R.fault R.holds R.run (h ++ calls_all steps.now) (state result.plan result.places.now result.count false) }
 {
     let mut held = draft;
     for i in 0..steps.len() {
@@ -48,8 +48,8 @@ pub fn play<'a, R: Rule + Copy>(
 // One step.
 fn act<'a, R: Rule + Copy>(draft: Draft<'a, R>, step: &Step<R>, answer: &mut u8) -> Draft<'a, R>
     ensures lent { result.places.ghost_name ≡ draft.entry.places.ghost_name }
-    ensures plan { state result.plan result.places.now result.count false ≡ after fault run (calls_of step.now) (state draft.entry.plan draft.entry.places.now draft.entry.count false) }
-    ensures answer { answer.new ≡ answer_of fault run step.now (state draft.entry.plan draft.entry.places.now draft.entry.count false) }
+    ensures plan { state result.plan result.places.now result.count false ≡ after R.fault R.run (calls_of step.now) (state draft.entry.plan draft.entry.places.now draft.entry.count false) }
+    ensures answer { answer.new ≡ answer_of R.fault R.run step.now (state draft.entry.plan draft.entry.places.now draft.entry.count false) }
 {
     let mut draft = draft;
     match *step {

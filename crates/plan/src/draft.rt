@@ -69,8 +69,8 @@ impl<'a, R: Rule> Draft<'a, R> {
     pub fn limit(&mut self, sensor: u8, mask: u64) -> Result<(), Refusal>
         ensures lent { self.new.places.ghost_name ≡ self.old.places.ghost_name }
         ensures places { (self.new.places.now ≡ self.old.places.now) × (self.new.count ≡ self.old.count) }
-        ensures answer { outcome result ≡ answer fault run (enter (limiting sensor mask)) (state self.old.plan self.old.places.now self.old.count false) }
-        ensures plan { state self.new.plan self.new.places.now self.new.count false ≡ does fault run (enter (limiting sensor mask)) (state self.old.plan self.old.places.now self.old.count false) }
+        ensures answer { outcome result ≡ answer R.fault R.run (enter (limiting sensor mask)) (state self.old.plan self.old.places.now self.old.count false) }
+        ensures plan { state self.new.plan self.new.places.now self.new.count false ≡ does R.fault R.run (enter (limiting sensor mask)) (state self.old.plan self.old.places.now self.old.count false) }
     {
         if sensor >= self.plan.sensors() {
             return Err(Refusal::Sensor);
@@ -88,8 +88,8 @@ impl<'a, R: Rule> Draft<'a, R> {
     pub fn claim(&mut self, set: u8, mask: u64) -> Result<(), Refusal>
         ensures lent { self.new.places.ghost_name ≡ self.old.places.ghost_name }
         ensures places { (self.new.places.now ≡ self.old.places.now) × (self.new.count ≡ self.old.count) }
-        ensures answer { outcome result ≡ answer fault run (enter (claiming set mask)) (state self.old.plan self.old.places.now self.old.count false) }
-        ensures plan { state self.new.plan self.new.places.now self.new.count false ≡ does fault run (enter (claiming set mask)) (state self.old.plan self.old.places.now self.old.count false) }
+        ensures answer { outcome result ≡ answer R.fault R.run (enter (claiming set mask)) (state self.old.plan self.old.places.now self.old.count false) }
+        ensures plan { state self.new.plan self.new.places.now self.new.count false ≡ does R.fault R.run (enter (claiming set mask)) (state self.old.plan self.old.places.now self.old.count false) }
     {
         if set >= self.plan.sets() {
             return Err(Refusal::Set);
@@ -107,8 +107,8 @@ impl<'a, R: Rule> Draft<'a, R> {
     pub fn bar(&mut self, set: u8, mask: u64) -> Result<(), Refusal>
         ensures lent { self.new.places.ghost_name ≡ self.old.places.ghost_name }
         ensures places { (self.new.places.now ≡ self.old.places.now) × (self.new.count ≡ self.old.count) }
-        ensures answer { outcome result ≡ answer fault run (enter (barring set mask)) (state self.old.plan self.old.places.now self.old.count false) }
-        ensures plan { state self.new.plan self.new.places.now self.new.count false ≡ does fault run (enter (barring set mask)) (state self.old.plan self.old.places.now self.old.count false) }
+        ensures answer { outcome result ≡ answer R.fault R.run (enter (barring set mask)) (state self.old.plan self.old.places.now self.old.count false) }
+        ensures plan { state self.new.plan self.new.places.now self.new.count false ≡ does R.fault R.run (enter (barring set mask)) (state self.old.plan self.old.places.now self.old.count false) }
     {
         if set >= self.plan.sets() {
             return Err(Refusal::Set);
@@ -128,9 +128,9 @@ impl<'a, R: Rule> Draft<'a, R> {
     pub fn settle(self) -> Settled<'a, R>
         ensures lent { result.places.ghost_name ≡ self.entry.places.ghost_name }
         ensures places { (result.places.now ≡ self.entry.places.now) × (result.count ≡ self.entry.count) }
-        ensures plan { state result.plan result.places.now result.count true ≡ does fault run settling (state self.entry.plan self.entry.places.now self.entry.count false) }
-        ensures trusted { Trusted fault holds run (state self.entry.plan self.entry.places.now self.entry.count false) (model result.plan) }
-        ensures mixes { MixesStand fault holds run }
+        ensures plan { state result.plan result.places.now result.count true ≡ does R.fault R.run settling (state self.entry.plan self.entry.places.now self.entry.count false) }
+        ensures trusted { Trusted R.fault R.holds R.run (state self.entry.plan self.entry.places.now self.entry.count false) (model result.plan) }
+        ensures mixes { MixesStand R.fault R.holds R.run }
     {
         let Draft {
             plan,
@@ -214,8 +214,8 @@ impl<'a, R: Rule + Drop> Draft<'a, R> {
     pub fn post(&mut self, rule: R) -> Result<(), Refusal>
         ensures lent { self.new.places.ghost_name ≡ self.old.places.ghost_name }
         ensures places { self.new.places.now ≡ posted_places (outcome result) self.old.places.now self.old.count rule }
-        ensures answer { outcome result ≡ answer fault run (posting rule) (state self.old.plan self.old.places.now self.old.count false) }
-        ensures plan { state self.new.plan self.new.places.now self.new.count false ≡ does fault run (posting rule) (state self.old.plan self.old.places.now self.old.count false) }
+        ensures answer { outcome result ≡ answer R.fault R.run (posting rule) (state self.old.plan self.old.places.now self.old.count false) }
+        ensures plan { state self.new.plan self.new.places.now self.new.count false ≡ does R.fault R.run (posting rule) (state self.old.plan self.old.places.now self.old.count false) }
     {
         match earlier(rule.fit(&self.plan), self.room()) {
             Ok(()) => {}
@@ -231,7 +231,7 @@ impl<'a, R: Rule + Drop> Draft<'a, R> {
 // Settles a box under the first `count` rules of the places.
 fn settle_table<R: Rule>(places: &[R], count: usize, d: &mut Domains)
     ensures board { board d.new ≡ board d.old }
-    ensures model { model d.new ≡ settled (board d.old) (map (asked fault run (board d.old)) (take count places.now)) (model d.old) }
+    ensures model { model d.new ≡ settled (board d.old) (map (asked R.fault R.run (board d.old)) (take count places.now)) (model d.old) }
 {
     let n = count.min(places.len());
     settle(&places[0..n], d);

@@ -75,7 +75,7 @@ impl<'a, R: Rule> Settled<'a, R> {
     pub fn reopen(self) -> Draft<'a, R>
         ensures lent { result.places.ghost_name ≡ self.entry.places.ghost_name }
         ensures places { (result.places.now ≡ self.entry.places.now) × (result.count ≡ self.entry.count) }
-        ensures plan { state result.plan result.places.now result.count false ≡ does fault run reopening (state self.entry.plan self.entry.places.now self.entry.count true) }
+        ensures plan { state result.plan result.places.now result.count false ≡ does R.fault R.run reopening (state self.entry.plan self.entry.places.now self.entry.count true) }
     {
         let Settled {
             plan,

@@ -12,7 +12,7 @@ use rule::Rule;
 // Each rule's fit is asked anew at each run, and a misfit skipped. The order of the runs is free; the result does not show it.
 pub fn settle<R: Rule>(rules: &[R], d: &mut Domains) -> bool
     ensures board { board d.new ≡ board d.old }
-    ensures model { model d.new ≡ settled (board d.old) (map (asked fault run (board d.old)) rules.now) (model d.old) }
+    ensures model { model d.new ≡ settled (board d.old) (map (asked R.fault R.run (board d.old)) rules.now) (model d.old) }
     ensures moved { Progress (board d.old) result (model d.old) (model d.new) }
 {
     let mut moved = false;
@@ -25,7 +25,7 @@ pub fn settle<R: Rule>(rules: &[R], d: &mut Domains) -> bool
 // Each rule once, in the order of the table; whether that changed the box.
 fn round<R: Rule>(rules: &[R], d: &mut Domains) -> bool
     ensures board { board d.new ≡ board d.old }
-    ensures model { model d.new ≡ once (map (asked fault run (board d.old)) rules.now) (model d.old) }
+    ensures model { model d.new ≡ once (map (asked R.fault R.run (board d.old)) rules.now) (model d.old) }
     ensures moved { Progress (board d.old) result (model d.old) (model d.new) }
 {
     let mut changed = false;
@@ -39,7 +39,7 @@ fn round<R: Rule>(rules: &[R], d: &mut Domains) -> bool
 // One rule, if it fits. A dead box has nothing to lose.
 fn step<R: Rule>(rule: &R, d: &mut Domains) -> bool
     ensures board { board d.new ≡ board d.old }
-    ensures model { model d.new ≡ asked fault run (board d.old) rule.now (model d.old) }
+    ensures model { model d.new ≡ asked R.fault R.run (board d.old) rule.now (model d.old) }
     ensures moved { Progress (board d.old) result (model d.old) (model d.new) }
 {
     if d.is_dead() {

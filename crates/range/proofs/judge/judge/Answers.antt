@@ -6,7 +6,7 @@ use Rattle.covering.proofs.Singles.{fewer-left, with-low}
 use Rattle.range.proofs.judge.judge.Goals as goal
 
 pub loop-i-init : goal.loop-i-init
-loop-i-init c = judged-start _ _ _ _ _ c.told-cands _ c.in-Ok.ensures.covers
+loop-i-init c = judged-start _ _ _ _ _ c.told-cands _ c.in-Ok.ensures.covers.covers
 
 pub loop-i-smaller-then-seen : goal.loop-i-smaller-then-seen
 loop-i-smaller-then-seen c = simp c.in-Some.ensures.others (fewer-left c.loop-i.left c.in-Some.i c.in-Some.ensures.member)
