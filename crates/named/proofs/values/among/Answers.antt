@@ -15,7 +15,7 @@ returns c =
     let d = c.args.draft.now in
     let z = state d.plan d.places.now d.count false in
     let m = c.either-mask.ensures ∙ ap₂ ◌||◌ (c.beyond.ensures ∙ ap (λ (n : ℕ). beyond n c.args.g) c.sensors.ensures) (c.beyond-2.ensures ∙ ap (λ (n : ℕ). beyond n c.args.v) c.slots.ensures) in
-    let a = asked-as (absent (board d.plan) c.args.s c.args.t) (misfit (board d.plan) c.args.s c.args.t) (eqb c.args.s c.args.t) (ltb (free_places z) 2) c.in-Ok.ensures m c.no_range_lem.ensures in
+    let a = asked-as (absent (board d.plan) c.args.s c.args.t) (misfit (board d.plan) c.args.s c.args.t) (eqb c.args.s c.args.t) (ltb (free_places z) 2) c.in-Ok.ensures m c.no_range.ensures in
     record {
       lent = c.enter_count.ensures.lent ∙ c.post.ensures.lent ∙ c.enter_is.ensures.lent;
       whole = record {

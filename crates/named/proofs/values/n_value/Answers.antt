@@ -14,7 +14,7 @@ pub returns : goal.returns
 returns c =
     let d = c.args.draft.now in
     let z = state d.plan d.places.now d.count false in
-    let a = asked-as (absent (board d.plan) c.args.s c.args.t) (misfit (board d.plan) c.args.s c.args.t) (eqb c.args.s c.args.t) (ltb (free_places z) 2) c.in-Ok.ensures (c.beyond-mask.ensures ∙ ap (λ (n : ℕ). beyond n c.args.g) c.sensors.ensures) c.no_range_lem.ensures in
+    let a = asked-as (absent (board d.plan) c.args.s c.args.t) (misfit (board d.plan) c.args.s c.args.t) (eqb c.args.s c.args.t) (ltb (free_places z) 2) c.in-Ok.ensures (c.beyond-mask.ensures ∙ ap (λ (n : ℕ). beyond n c.args.g) c.sensors.ensures) c.no_range.ensures in
     record {
       lent = c.enter_count.ensures.lent ∙ c.enter_range.ensures.lent;
       whole = record {
