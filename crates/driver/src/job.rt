@@ -1,5 +1,4 @@
-// What a program in Rust or C links with to run the planner: a job is a list of steps, and is built, settled and listed.
-// `bench/` times the planner and compares it with other code through these calls.
+//! A job is a list of steps, and is built, settled and listed.
 use board::domains::Domains;
 use board::refusal::Refusal;
 use kinds::SheetRule;
@@ -32,8 +31,7 @@ const ROW: SheetRule = SheetRule::Row(Row { a: 0 });
 
 // Makes the calls on a new draft, settles it, and writes the listing at the front of the output; the listing's length, or 0 where the output is too short.
 // The answer to each call goes into `answers`, as far as that reaches: 0, or the number of the refusal.
-#[unsafe(no_mangle)]
-pub extern "C" fn slotplan_listing(job: &[Step], answers: &mut [u8], out: &mut [u8]) -> usize {
+pub fn slotplan_listing(job: &[Step], answers: &mut [u8], out: &mut [u8]) -> usize {
     let mut places = [ROW; MOST_PLACES];
     let mut draft = Draft::begin(&mut places);
     for i in 0..job.len() {
@@ -50,15 +48,13 @@ pub extern "C" fn slotplan_listing(job: &[Step], answers: &mut [u8], out: &mut [
 }
 
 // Makes the calls on a new draft and settles it, that many times; the first sensor's candidates, joined by exclusive or.
-#[unsafe(no_mangle)]
-pub extern "C" fn slotplan_jobs(job: &[Step], times: u32) -> u64 {
+pub fn slotplan_jobs(job: &[Step], times: u32) -> u64 {
     let mut places = [ROW; MOST_PLACES];
     work(job, &mut places, times)
 }
 
 // Makes the calls once and settles what they give that many times; the first sensor's candidates, joined by exclusive or.
-#[unsafe(no_mangle)]
-pub extern "C" fn slotplan_settles(job: &[Step], times: u32) -> u64 {
+pub fn slotplan_settles(job: &[Step], times: u32) -> u64 {
     let mut rules = [ROW; MOST_PLACES];
     let (start, count) = prepare(job, &mut rules);
     rest(&rules, count, start, times)

@@ -1,4 +1,4 @@
-//! What a program in C or Rust links with to run the planner. The C header is include/slotplan.h.
+//! The planner as a library for other languages: what `driver_c` exports to C, under the same names.
 #![tactic(auto)]
 
 ghost use Rattle.std.specs.Prelude.{◌≡◌, ◌≤◌, length};
@@ -6,6 +6,8 @@ ghost use Rattle.model.specs.Box.{cand};
 ghost use Rattle.text.specs.Lines.{longest_listing};
 ghost use Rattle.board.specs.Model.{model};
 ghost use Rattle.driver.specs.Exports.{text_of, Exported, accepted, accepted_of, first_of, joined};
+
+pub mod job;
 
 use kinds::SheetRule;
 use load::load::load;
@@ -15,13 +17,10 @@ use planner::sheet::print_sheet;
 use sets::row::Row;
 use text::listing;
 
-pub mod job;
-
 const NO_RULES: [SheetRule; MOST_PLACES] = [SheetRule::Row(Row { a: 0 }); MOST_PLACES];
 
 // How many bytes the longest listing has.
-#[unsafe(no_mangle)]
-pub extern "C" fn slotplan_longest() -> usize
+pub fn slotplan_longest() -> usize
     ensures { result ≡ longest_listing }
 {
     listing::LONGEST_LISTING
@@ -29,8 +28,7 @@ pub extern "C" fn slotplan_longest() -> usize
 
 // Loads a sheet file, settles it, and writes the listing, or the line of the refusal, at the front of the output; the text's length.
 // Where the output is too short, 0, and the output is left as it was. One of the longest listing's length never is.
-#[unsafe(no_mangle)]
-pub extern "C" fn slotplan_print(file: &[u8], out: &mut [u8]) -> usize
+pub fn slotplan_print(file: &[u8], out: &mut [u8]) -> usize
     ensures printed { Exported (text_of file.now) result out.old out.new }
     ensures enough { length (text_of file.now) ≤ longest_listing }
 {
@@ -42,8 +40,7 @@ pub extern "C" fn slotplan_print(file: &[u8], out: &mut [u8]) -> usize
 }
 
 // Loads and settles a sheet file so many times, for timing; the candidates that it leaves to sensor 0, none where it is refused, joined by exclusive or.
-#[unsafe(no_mangle)]
-pub extern "C" fn slotplan_runs(file: &[u8], times: u32) -> u64
+pub fn slotplan_runs(file: &[u8], times: u32) -> u64
     ensures { result ≡ joined times (first_of file.now) }
 {
     let mut sum = 0;
@@ -54,8 +51,7 @@ pub extern "C" fn slotplan_runs(file: &[u8], times: u32) -> u64
 }
 
 // Loads a sheet file so many times and settles it never, for timing; how many of the loads were accepted.
-#[unsafe(no_mangle)]
-pub extern "C" fn slotplan_loads(file: &[u8], times: u32) -> u32
+pub fn slotplan_loads(file: &[u8], times: u32) -> u32
     ensures { result ≡ accepted_of file.now times }
 {
     let mut accepted = 0;
