@@ -11,7 +11,7 @@ use Rattle.model.specs.Capacity.{most_sensors, most_sets}
 use Rattle.model.proofs.Boxes.{live-true}
 use Rattle.model.proofs.Full.{full-live}
 use Rattle.model.proofs.Lists.{tab-at, tab-length}
-use Rattle.board.specs.Shape.{Canon, Fitted, Long, Padded, box_of}
+use Rattle.board.specs.Shape.{box_of}
 use Rattle.board.proofs.Rows.{Rows}
 use Rattle.board.proofs.Shapes.{zeros}
 

@@ -4,7 +4,7 @@ use lib.Seq.{take-set-lt}
 use lib.Bits.{bit_and, bit_or, and_le_l}
 use Rattle.std.proofs.lemmas.Bool.{both_ways, lt-ltb, cases_eq}
 use Rattle.masks.specs.Masks.{within, without}
-use Rattle.model.specs.Board.{Board, Sized, room}
+use Rattle.model.specs.Board.{Board, room}
 use Rattle.model.specs.Box.{Box, Live, cand, dead, hi, live, lo}
 use Rattle.model.specs.Entries.{Entry, bar, claim, cut, limit, narrow, placed}
 use Rattle.model.specs.Settled.{Progress}
@@ -14,7 +14,7 @@ use Rattle.model.proofs.Entries.{entry-narrows, narrow-not, narrow-yes, stored-l
 use Rattle.model.proofs.Narrowing.{live-kept, narrow-same, no-live, progress-entry, progress-none}
 use Rattle.model.proofs.Tight.{dead-stays}
 use Rattle.board.specs.Model.{board, model}
-use Rattle.board.specs.Shape.{Beyond, Canon, Fitted, Long, Padded, box_of}
+use Rattle.board.specs.Shape.{Beyond, Canon, box_of}
 use Rattle.board.proofs.Rows.{Rows}
 use Rattle.board.proofs.Shapes.{cand-of, hi_of, is-kept, lo-of, some}
 use Rattle.board.specs.declared.domains.Domains.{Domains}

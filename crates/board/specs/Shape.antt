@@ -1,5 +1,5 @@
 -- What a stored box keeps, over its rows. Assumes nothing.
-use Rattle.std.specs.Prelude.{◌≡◌, ℕ, ◌^◌, ◌<◌, ◌≤◌, Bool, true, false, List, length, take, slice_index}
+use Rattle.std.specs.Prelude.{◌≡◌, ℕ, ◌^◌, ◌<◌, ◌≤◌, Bool, false, List, length, take, slice_index}
 use Rattle.model.specs.Capacity.{most_sensors, most_sets}
 use Rattle.model.specs.Board.{Board, room}
 use Rattle.model.specs.Box.{Box, live}

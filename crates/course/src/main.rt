@@ -5,7 +5,7 @@ mod sheets;
 
 use anyhow::anyhow;
 use kinds::SheetRule;
-use planner::sheet::print_sheet;
+use planner::printing::print_sheet;
 use sets::row::Row;
 use sheets::{BOARD, ENTRIES, FAST, FAST_TWO, MENDED, TOO_FEW};
 use std::io::Write;

@@ -1,6 +1,6 @@
 -- Coverings: every claimed slot gets a sensor of its own that has the slot as a candidate. Assumes nothing.
 -- `can i v` says that slot v is a candidate of sensor i; sensors, claimed slots and groups of slots are masks.
-use Rattle.std.specs.Prelude.{◌≡◌, ℕ, ◌^◌, ◌<◌, Bool, true, false, List, ◌≢◌, count_ones, slice_index}
+use Rattle.std.specs.Prelude.{◌≡◌, ℕ, ◌^◌, ◌<◌, Bool, true, List, ◌≢◌, count_ones, slice_index}
 use Rattle.masks.specs.Masks.{has, without}
 
 -- the candidates as a board holds them: for each sensor the mask of its slots

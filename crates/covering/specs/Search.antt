@@ -1,6 +1,6 @@
 -- The search for a free sensor, from a bare slot w. A sensor is seen from a slot; a slot is reached by its sensor being seen.
 -- `from` has for each sensor seen the slot that it was seen from. Assumes nothing.
-use Rattle.std.specs.Prelude.{◌≡◌, ℕ, ◌+◌, ◌<◌, ◌≤◌, Bool, true, false, ◌⊎◌, List, length, ◌≢◌, count_ones, slice_index, slice_index_or}
+use Rattle.std.specs.Prelude.{◌≡◌, ℕ, ◌+◌, ◌<◌, ◌≤◌, true, false, ◌⊎◌, List, length, ◌≢◌, count_ones, slice_index, slice_index_or}
 use Rattle.masks.specs.Masks.{has, without}
 
 -- what a search needs of the owners: no two sensors have one slot, and none has w

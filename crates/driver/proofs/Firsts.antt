@@ -1,5 +1,5 @@
 -- The candidates that a file leaves to its first sensor, and masks joined.
-use Rattle.std.proofs.Common.{◌≡◌, ℕ, ◌+◌, ◌%◌, Bool, true, false, cond, eqb, leb, List, [], ◌∷◌, Some, None, Option, sym, refl, ap, ◌∙◌, ap₂, inl, inr, arith}
+use Rattle.std.proofs.Common.{◌≡◌, ℕ, ◌+◌, ◌%◌, true, false, eqb, leb, List, [], ◌∷◌, Some, None, Option, sym, refl, ap, ◌∙◌, ap₂, inl, inr, arith}
 use lib.Bits.{bit_xor, xor_self}
 use Rattle.std.proofs.lemmas.Bool.{eq-eqb, ne_eqb, cases_eq, cond-true, cond-false, lt-leb}
 use Rattle.model.specs.Capacity.{most_places}
@@ -13,7 +13,7 @@ use Rattle.kinds.specs.declared.SheetRule.{SheetRule}
 use Rattle.kinds.specs.SheetRules.{sheet_fault, sheet_run}
 use Rattle.load.specs.Loads.{load_fault, load_plan, Loaded}
 use Rattle.load.proofs.Faults.{one-plan}
-use Rattle.driver.specs.Exports.{accepted, accepted_of, first_in, first_of, joined}
+use Rattle.driver.specs.Exports.{accepted, first_in, first_of, joined}
 
 first-none : (b : Box) → first_in b None ≡ cand b 0
 unfolding first_in

@@ -13,7 +13,7 @@ use kinds::SheetRule;
 use load::load::load;
 use plan::draft::{Draft, MOST_PLACES};
 use plan::settled::Settled;
-use planner::sheet::print_sheet;
+use planner::printing::print_sheet;
 use sets::row::Row;
 use text::listing;
 

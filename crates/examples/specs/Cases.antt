@@ -3,12 +3,6 @@
 use Rattle.std.specs.Prelude.{◌≡◌, List, [], ◌∷◌, ℕ}
 use Rattle.model.specs.Board.{Board, board_of}
 use Rattle.model.specs.Box.{Box}
-use Rattle.sets.specs.declared.within.Within.{Within}
-use Rattle.sets.specs.declared.apart.Apart.{Apart}
-use Rattle.sets.specs.declared.count.Count.{Count}
-use Rattle.sets.specs.declared.row.Row.{Row}
-use Rattle.range.specs.declared.range.Range.{Range}
-use Rattle.roots.specs.declared.roots.Roots.{Roots}
 use Rattle.kinds.specs.declared.SheetRule.{SheetRule}
 use Rattle.kinds.specs.declared.SheetRule.TheVariants as kind
 use Rattle.kinds.specs.SheetRules.{sheet_run}

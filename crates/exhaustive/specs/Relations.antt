@@ -1,9 +1,5 @@
 -- Where the rules hold at a layout of a small board, said anew and apart from the planner's definitions. Assumes nothing.
 use Rattle.std.specs.Prelude.{ℕ, Bool, cond, not, ◌&&◌, ◌||◌, ◌==◌, bit_or, count_ones, nat_le}
-use Rattle.std.specs.Int.Bits.{bit_and}
-use Rattle.sets.specs.declared.count.Count.{Count}
-use Rattle.range.specs.declared.range.Range.{Range}
-use Rattle.roots.specs.declared.roots.Roots.{Roots}
 use Rattle.roots.specs.declared.implication.Implication.{Implication}
 use Rattle.roots.specs.declared.implication.Implication.TheVariants.{Excluded, Implies, ImpliedBy}
 use Rattle.kinds.specs.declared.SheetRule.{SheetRule}

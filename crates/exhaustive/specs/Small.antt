@@ -1,6 +1,5 @@
 -- Layouts of small boards, read by number. Assumes nothing.
 use Rattle.std.specs.Prelude.{ℕ, Bool, cond, not, ◌==◌, bit_and, slice_index}
-use Rattle.std.specs.Int.Bits.{bit_or}
 use Rattle.exhaustive.specs.declared.small.Layout.{Layout}
 
 -- the mask of one number below three

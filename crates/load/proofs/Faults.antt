@@ -1,5 +1,5 @@
 -- The first fault of a walk: one step, and what is known where there is none.
-use Rattle.std.proofs.Common.{◌≡◌, ℕ, zero, suc, ◌+◌, Bool, true, false, cond, not, eqb, List, [], ◌∷◌, ◌++◌, length, drop, Some, None, Ok, Err, Option, Result, sym, refl, ap, ◌∙◌, subst, arith}
+use Rattle.std.proofs.Common.{◌≡◌, ℕ, zero, suc, ◌+◌, Bool, true, false, cond, eqb, List, [], ◌∷◌, ◌++◌, length, drop, Some, None, Ok, Err, Option, Result, sym, refl, ap, ◌∙◌, subst, arith}
 use Rattle.std.proofs.lemmas.Bool.{eq-eqb, ne_eqb, eqb-true, cond-true, cond-false}
 use Rattle.model.specs.Board.{board_of}
 use Rattle.model.specs.Box.{full}
@@ -12,9 +12,8 @@ use Rattle.sheet.specs.Layout.{Rec, head, name, limit, claim, bar, range, roots,
 use Rattle.sheet.specs.Steps.{turn, opens, told, turned, Moved}
 use Rattle.sheet.specs.Files.{before, read_on, read_all}
 use Rattle.sheet.proofs.Whole.{turn-some, turn-none}
-use Rattle.load.specs.declared.check.Sketch.{Sketch}
 use Rattle.load.specs.Acts.{act_of_lem, verdict, taken, calls, calls_of, Unrefused}
-use Rattle.load.specs.Walks.{Walk, end, stop, step, goes, walk_from, walk_on, walks_on, records_of, then_walk}
+use Rattle.load.specs.Walks.{Walk, end, stop, step, goes, walk_from, walk_on, walks_on, records_of}
 use Rattle.load.specs.Loads.{first_fault, closing, blank, load_fault, load_plan, Loaded}
 use Rattle.load.proofs.Walking.{steps, read_walk, walked}
 

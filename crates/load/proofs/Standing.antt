@@ -1,5 +1,5 @@
 -- What the check keeps of a plan suffices for what the planner answers.
-use Rattle.std.proofs.Common.{◌≡◌, ℕ, ◌+◌, ◌<◌, min, true, cond, eqb, leb, List, [], ◌∷◌, ◌++◌, length, IfOk, Some, Ok, Err, Option, Result, sym, refl, ap, ◌∙◌, subst, arith, length-append}
+use Rattle.std.proofs.Common.{◌≡◌, ℕ, ◌+◌, min, cond, eqb, leb, [], ◌∷◌, ◌++◌, length, IfOk, Some, Ok, Err, Option, Result, sym, ap, ◌∙◌, subst, length-append}
 use Rattle.std.proofs.lemmas.Bool.{eq-eqb, cond-true}
 use Rattle.model.specs.Capacity.{most_places}
 use Rattle.model.specs.Board.{Board}

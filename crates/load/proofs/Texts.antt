@@ -1,5 +1,5 @@
 -- What is printed of a file.
-use Rattle.std.proofs.Common.{◌≡◌, ℕ, List, Some, None, Option, sym, refl, ap, ◌∙◌, ap₂}
+use Rattle.std.proofs.Common.{◌≡◌, ℕ, List, Some, None, sym, refl, ap, ◌∙◌, ap₂}
 use Rattle.model.specs.Calls.{State, settle, does}
 use Rattle.text.specs.Lines.{listing, refused_line}
 use Rattle.kinds.specs.declared.SheetRule.{SheetRule}

@@ -1,5 +1,5 @@
 -- What loading a file answers, and the plan that it leaves. Assumes nothing.
-use Rattle.std.specs.Prelude.{◌≡◌, ℕ, true, false, cond, List, ◌∷◌, length, Some, None, Ok, Err, Option, Result, ◌==◌}
+use Rattle.std.specs.Prelude.{◌≡◌, ℕ, false, cond, List, ◌∷◌, length, Some, None, Ok, Err, Option, Result, ◌==◌}
 use Rattle.model.specs.Board.{board_of}
 use Rattle.model.specs.Box.{full}
 use Rattle.model.specs.Refusals.{refusal}

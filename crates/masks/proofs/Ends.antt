@@ -5,7 +5,7 @@ use Rattle.masks.specs.Masks.{has, lowest, numbers, past, stretch}
 use Rattle.masks.proofs.Counts.{first, first-has}
 use Rattle.masks.proofs.Masks.{bit, half-below, has-below, has-full, has-without}
 use Rattle.masks.proofs.Subsets.{nonzero}
-use lib.Count.{count_trailing_zeros, count_leading_zeros, leading_top, leading_of_zero, under as below-digit}
+use lib.Count.{count_trailing_zeros, leading_top, leading_of_zero, under as below-digit}
 
 some-member : (m i : ℕ) → has m i ≡ true → 0 < m
 some-member m i e = let n = eqb-false m 0 (nonzero m i e) in omega arith

@@ -4,14 +4,13 @@ use Rattle.std.proofs.lemmas.Bool.{cases_eq}
 use Rattle.std.proofs.lemmas.List.{take_more}
 use Rattle.model.specs.Board.{Board}
 use Rattle.model.specs.Box.{Box}
-use Rattle.model.specs.Calls.{Call, State, after, does, enter, post, reopen, settle}
+use Rattle.model.specs.Calls.{Call, State, after, does}
 use Rattle.model.specs.Layout.{Layout}
 use Rattle.model.proofs.Mixes.{after-board}
 use Rattle.mix.specs.Played.{Answered, answer_of, answers_all, calls_all, calls_of}
 use Rattle.plan.specs.Trust.{Leads, begun}
 use Rattle.plan.proofs.Trusting.{after-places}
 use Rattle.mix.specs.declared.Step.{Step}
-use Rattle.mix.specs.declared.Step.TheVariants as step
 
 pub after-append : {R : Type 0} (fault : Board → R → ℕ) (run : Board → R → Box → Box) (g h : List (Call R)) (s : State R) → after fault run (g ++ h) s ≡ after fault run h (after fault run g s)
 after-append fault run [] h s = refl

@@ -3,10 +3,8 @@
 use Rattle.std.proofs.Common.{◌≡◌, ℕ, zero, suc, ◌<◌, ◌≤◌, Bool, true, false, ltb, ◌⊎◌, List, [], ◌∷◌, sym, refl, subst, inl, inr, arith}
 use Rattle.std.specs.List.{AllByRecursion as All}
 use Rattle.std.proofs.lemmas.Bool.{ltb-true, ltb-false}
-use Rattle.model.specs.Box.{size}
 use Rattle.model.specs.Laws.{fits}
 use Rattle.model.specs.Settled.{round, rounds, settled_by}
-use Rattle.model.proofs.Space.{Sub}
 
 pub record Ordered {B : Type 0} (Good : B → Type 0) (Sub : B → B → Type 0) (size : B → ℕ) : Type 0 where
   pub itself : (a : B) → Sub a a

@@ -3,10 +3,8 @@
 use Rattle.std.proofs.Common.{◌≡◌, Bool, true, false, List, sym, refl, ap, ◌∙◌}
 use Rattle.std.specs.List.{AllByRecursion as All}
 use Rattle.std.proofs.lemmas.Bool.{both_ways}
-use Rattle.model.specs.Box.{choice, uses}
 use Rattle.model.specs.Calls.{Mem}
-use Rattle.model.specs.Layout.{On}
-use Rattle.model.specs.Tight.{hull, keep, layouts}
+use Rattle.model.specs.Tight.{keep}
 use Rattle.model.proofs.Lists.{all_keep, any, any-mem, any_some, keep-mem, mem-keep}
 
 pub record Space {B L C : Type 0} (choice : B → C → Bool) (uses : L → C → Bool) (Good : B → Type 0) (On : L → Type 0)

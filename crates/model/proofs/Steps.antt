@@ -9,7 +9,6 @@ use Rattle.model.specs.Entries.{narrow, narrowed}
 use Rattle.model.specs.Settled.{round, rounds, settled_by}
 use Rattle.model.proofs.Lists.{alike-sym, all_alike, all-every, all_of_map, all-to-map}
 use Rattle.model.proofs.Rounds.{Ordered, Runs, Settled, settled_is, settled-one}
-use Rattle.model.proofs.Space.{Sub}
 
 pub data Step (E R : Type 0) : Type 0 where
   entering : E → Step E R

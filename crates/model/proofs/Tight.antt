@@ -9,7 +9,7 @@ use Rattle.model.specs.Laws.{InsideStands, Narrows, Only, Ordering, TightStands,
 use Rattle.model.specs.Layout.{Layout, On}
 use Rattle.model.specs.Settled.{Settling, SettlingStands}
 use Rattle.model.specs.Tight.{hull, layouts, tight}
-use Rattle.model.proofs.Boxes.{dead-choice, lay-mem, live-choice, made, mem-lay, space}
+use Rattle.model.proofs.Boxes.{dead-choice, lay-mem, live-choice, mem-lay, space}
 use Rattle.model.proofs.Order.{Fewer, fewer-inside, fewer-one, inside-fewer, ordered}
 use Rattle.model.proofs.Rounds.{Runs, settled_is}
 use Rattle.model.proofs.Space.{some-tight, tight-again, tight-dies, tight-good, tight-inside, tight-keeps, tight-mono, tight-some, tight-stays}

@@ -4,7 +4,7 @@ use Rattle.std.specs.List.{AllByRecursion as All}
 use Rattle.model.specs.Capacity.{most_sensors, most_slots, most_sets, most_places}
 use Rattle.model.specs.Board.{Board}
 use Rattle.model.specs.Layout.{Layout, On}
-use Rattle.model.specs.Box.{Box, full, In, Kept}
+use Rattle.model.specs.Box.{Box, In, Kept}
 use Rattle.model.specs.Laws.{Only, asked}
 use Rattle.model.specs.Settled.{settled}
 use Rattle.model.specs.Refusals.{Cause, refusal, earlier}

@@ -1,10 +1,10 @@
 -- Limits, claims and bars. Assumes nothing.
-use Rattle.std.specs.Prelude.{ℕ, ◌^◌, Bool, true, false, List, [], ◌∷◌, set, ◌==◌, bit_and, bit_or, nat_le, nat_lt, slice_set}
+use Rattle.std.specs.Prelude.{ℕ, ◌^◌, Bool, true, false, List, [], ◌∷◌, ◌==◌, bit_and, bit_or, nat_le, nat_lt, slice_set}
 use Rattle.masks.specs.Masks.{has, within, without}
 use Rattle.model.specs.Board.{Board, room}
 use Rattle.model.specs.Layout.{Layout, slot_of, set_of}
 use Rattle.model.specs.Box.{Box, cand, lo, hi, live, dead}
-use Rattle.model.specs.Refusals.{Cause, refusal}
+use Rattle.model.specs.Refusals.{Cause}
 
 -- of a sensor or a set, by a mask
 pub data Entry : Type 0 where

@@ -1,5 +1,5 @@
 -- Why a named constraint is refused. Assumes nothing.
-use Rattle.std.specs.Prelude.{ℕ, ◌^◌, Bool, true, false, not, ◌||◌, List, [], ◌∷◌, ◌==◌, nat_le, nat_lt}
+use Rattle.std.specs.Prelude.{ℕ, ◌^◌, Bool, false, not, ◌||◌, List, [], ◌∷◌, ◌==◌, nat_le, nat_lt}
 use Rattle.masks.specs.Masks.{has}
 use Rattle.model.specs.Board.{Board}
 use Rattle.model.specs.Refusals.{Cause}

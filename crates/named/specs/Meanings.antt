@@ -1,5 +1,5 @@
 -- What the named constraints mean. Assumes nothing.
-use Rattle.std.specs.Prelude.{◌≡◌, ℕ, zero, suc, ◌≤◌, Bool, true, false, ◌&&◌, ◌||◌, List, [], ◌∷◌, set, ◌==◌, ◌≢◌, slice_set}
+use Rattle.std.specs.Prelude.{◌≡◌, ℕ, zero, suc, ◌≤◌, Bool, true, false, ◌&&◌, ◌||◌, List, [], ◌∷◌, ◌==◌, ◌≢◌, slice_set}
 use Rattle.masks.specs.Masks.{has, tally}
 use Rattle.model.specs.Board.{Board}
 use Rattle.model.specs.Layout.{Layout, On, layout, slot_of}

@@ -2,15 +2,9 @@
 use Rattle.std.specs.Prelude.{◌≡◌, ℕ, List, [], ◌∷◌, ◌++◌, count_ones}
 use Rattle.masks.specs.Masks.{without, numbers}
 use Rattle.model.specs.Board.{Board, room}
-use Rattle.model.specs.Box.{Box}
 use Rattle.model.specs.Entries.{claim, bar}
 use Rattle.model.specs.Calls.{State, Call, enter, post, answer, does, after}
 use Rattle.model.specs.Refusals.{Cause, refusal}
-use Rattle.range.specs.declared.range.Range.{Range}
-use Rattle.roots.specs.declared.roots.Roots.{Roots}
-use Rattle.sets.specs.declared.within.Within.{Within}
-use Rattle.sets.specs.declared.apart.Apart.{Apart}
-use Rattle.sets.specs.declared.count.Count.{Count}
 use Rattle.kinds.specs.SheetRules.{sheet_fault, sheet_run}
 use Rattle.kinds.specs.declared.SheetRule.{SheetRule}
 use Rattle.kinds.specs.declared.SheetRule.TheVariants as kind

@@ -5,7 +5,7 @@ use Rattle.std.specs.List.{AllByRecursion as All}
 use Rattle.masks.specs.Masks.{has, within}
 use Rattle.masks.proofs.Masks.{has-full, within-from}
 use Rattle.model.specs.Board.{Board, room}
-use Rattle.model.specs.Box.{Box, Choice, In, Kept, cand, choice, dead, full, hi, live, lo, uses}
+use Rattle.model.specs.Box.{Box, Choice, In, Kept, cand, choice, full, hi, live, lo, uses}
 use Rattle.model.specs.Calls.{Call, Mem, Mixes, State, after, does, enter, post, posted, reopen, settle}
 use Rattle.model.specs.Laws.{Lawful, Only, asked, fits}
 use Rattle.model.specs.Layout.{Layout, On, set_of, slot_of}
@@ -15,7 +15,6 @@ use Rattle.model.proofs.Full.{full-kept}
 use Rattle.model.proofs.Lists.{all-mem, all_of_map, tab-at}
 use Rattle.model.proofs.Mixes.{mix-kept, mix-settled-kept, mixes, posted-fit, rules_are}
 use Rattle.model.proofs.Tight.{settling}
-use Rattle.board.proofs.Shapes.{some}
 use Rattle.text.specs.Lines.{listing}
 use Rattle.plan.specs.Trust.{Leads, ReadsAlike, Trusted, begun}
 

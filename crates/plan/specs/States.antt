@@ -1,10 +1,7 @@
 -- The plan that a draft or a settled plan stands for, and what the calls on it promise. Assumes nothing.
-use Rattle.std.specs.Prelude.{◌≡◌, ℕ, ◌-◌, min, Bool, true, false, cond, List, [], ◌∷◌, length, take, ◌==◌, slice_set}
+use Rattle.std.specs.Prelude.{ℕ, ◌-◌, min, Bool, cond, List, length, take, ◌==◌, slice_set}
 use Rattle.model.specs.Capacity.{most_places}
-use Rattle.model.specs.Board.{Board}
-use Rattle.model.specs.Box.{Box}
-use Rattle.model.specs.Layout.{Layout}
-use Rattle.model.specs.Calls.{State, Call, draft, does, answer, after, entered, posted, Alike, Mixes}
+use Rattle.model.specs.Calls.{State}
 use Rattle.board.specs.declared.domains.Domains.{Domains}
 use Rattle.board.specs.Model.{board, model}
 

@@ -1,19 +1,16 @@
 -- Settled, every choice left is supported by the accepted Range rules, and Roots rules with a decided slot set. Assumes nothing.
 use Rattle.std.proofs.Common.{◌≡◌, ◌<◌, ap, ◌∙◌}
 use Rattle.std.proofs.lemmas.Bool.{eqb-true}
-use Rattle.model.specs.Box.{Box, Kept, choice, live}
+use Rattle.model.specs.Box.{Box, Kept, choice}
 use Rattle.model.specs.Calls.{State, does, settle}
 use Rattle.model.proofs.Narrowing.{live-kept}
 use Rattle.model.proofs.Tight.{tightness}
-use Rattle.board.proofs.Shapes.{some}
 use Rattle.roots.proofs.Exact.{decided-exact}
 use Rattle.range.specs.Ranges.{range_holds}
 use Rattle.kinds.specs.SheetRules.{sheet_fault, sheet_run}
 use Rattle.kinds.specs.SheetLaws.{sheet_lawful}
 use Rattle.plan.proofs.Trusting.{at_rest}
 use Rattle.planner.specs.Support.{Supports}
-use Rattle.range.specs.declared.range.Range.{Range}
-use Rattle.roots.specs.declared.roots.Roots.{Roots}
 use Rattle.kinds.specs.declared.SheetRule.{SheetRule}
 use Rattle.kinds.specs.declared.SheetRule.TheVariants as kind
 

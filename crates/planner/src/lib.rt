@@ -1,4 +1,4 @@
 #![tactic(auto)]
 
+pub mod printing;
 pub mod rest;
-pub mod sheet;

@@ -105,13 +105,7 @@ fn gives(d: &Domains, g: u64, s: u8, t: u8, sensor: u8, slot: u8) -> bool
     }
     match cover(&was.cands, was.sensors, was.claimed) {
         Ok(notes) => {
-            let seen = look(
-                &notes,
-                d.candidates(sensor),
-                was.lower,
-                was.upper,
-                sensor,
-            );
+            let seen = look(&notes, d.candidates(sensor), was.lower, was.upper, sensor);
             contains(seen.slots, slot)
         }
         Err(_) => false,

@@ -17,7 +17,6 @@ use Rattle.roots.specs.Implications.{implication_run, implied}
 use Rattle.roots.specs.Roots.{parts}
 use Rattle.roots.proofs.Bools.{no, not-then, then}
 use Rattle.roots.specs.Parts.{Rooted, each_at, each_laws, rooted}
-use Rattle.roots.specs.declared.implication.Implication.{Implication}
 use Rattle.roots.specs.declared.implication.Implication.TheVariants.{Excluded, Implies, ImpliedBy}
 use Rattle.roots.specs.declared.roots.Roots.{Roots}
 

@@ -21,7 +21,6 @@ use Rattle.model.proofs.Witness.{covers, firsts, firsts-pick, hi-fills, lo-fills
 use Rattle.roots.specs.Implications.{entries, implication_fault, implication_run, implied_by, implied_by_entries, implies, implies_entries}
 use Rattle.roots.proofs.Bools.{no, not-then, off, then}
 use Rattle.roots.specs.Fitting.{Excludes, Links, excludes, links, two}
-use Rattle.roots.proofs.Resting.{on}
 use Rattle.roots.proofs.Rests.{Backward, Forward, backward-linked, forward-linked}
 use Rattle.roots.specs.declared.implication.Implication.{Implication}
 use Rattle.roots.specs.declared.implication.Implication.TheVariants.{Excluded, Implies, ImpliedBy}

@@ -1,9 +1,8 @@
 -- Each implication of a Roots rule once, in place. Assumes nothing.
-use Rattle.std.proofs.Common.{◌≡◌, ℕ, ◌+◌, ◌^◌, ◌<◌, Bool, true, false, cond, not, ◌&&◌, ◌||◌, eqb, List, [], ◌∷◌, ◌++◌, map, sym, refl, ap, ◌∙◌, subst, add-one}
+use Rattle.std.proofs.Common.{◌≡◌, ℕ, ◌+◌, ◌^◌, ◌<◌, Bool, true, false, cond, not, ◌&&◌, ◌||◌, eqb, List, [], ◌∷◌, map, sym, refl, ap, ◌∙◌, subst, add-one}
 use mathlib.Core.Bool.{false≢true}
 use lib.Bits.{bit_and}
 use Rattle.masks.specs.Masks.{has, without}
-use Rattle.model.specs.Board.{Board}
 use Rattle.model.specs.Box.{cand, lo, hi}
 use Rattle.model.specs.Entries.{Entry, bar, claim, narrow, narrowed}
 use Rattle.model.specs.Refusals.{refusal}

@@ -2,7 +2,7 @@
 use Rattle.std.specs.Prelude.{◌≡◌, ℕ, ◌<◌, true}
 use Rattle.masks.specs.Masks.{has, within}
 use Rattle.model.specs.Board.{Board}
-use Rattle.model.specs.Box.{Box, Choice, Live, cand, lo, hi, choice, decided}
+use Rattle.model.specs.Box.{Box, Choice, Live, cand, lo, choice, decided}
 use Rattle.model.specs.Tight.{Supported}
 use Rattle.roots.specs.Roots.{roots_fault, roots_holds, roots_run}
 use Rattle.roots.specs.declared.roots.Roots.{Roots}

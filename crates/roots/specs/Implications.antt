@@ -1,6 +1,6 @@
 -- What a sensor and its slot have to do with two sets: the parts of a Roots rule. Assumes nothing.
 use Rattle.std.specs.Prelude.{ℕ, ◌^◌, Bool, true, false, cond, not, ◌&&◌, ◌||◌, List, [], ◌∷◌, ◌==◌, bit_and, count_ones, nat_le}
-use Rattle.masks.specs.Masks.{has, within, without}
+use Rattle.masks.specs.Masks.{has, without}
 use Rattle.model.specs.Board.{Board}
 use Rattle.model.specs.Layout.{Layout, slot_of, set_of}
 use Rattle.model.specs.Box.{Box, cand, lo, hi}

@@ -16,7 +16,6 @@ use Rattle.model.proofs.Cuts.{bar-at, bar-low, bar-there, claim-at, claim-high, 
 use Rattle.model.proofs.Entries.{entry-narrows}
 use Rattle.model.proofs.Narrowing.{entries-tight, narrow_cut, narrowed-cut}
 use Rattle.model.proofs.Witness.{covers, hi-fills, lo-fills, set-made}
-use Rattle.board.proofs.Shapes.{some}
 use Rattle.sets.specs.Withins.{within_entries}
 use Rattle.sets.proofs.Fitting.{Pair}
 

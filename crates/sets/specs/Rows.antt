@@ -1,5 +1,5 @@
 -- Row A: A has members, and they are consecutive numbers. Assumes nothing.
-use Rattle.std.specs.Prelude.{ℕ, ◌-◌, ◌^◌, Bool, cond, not, ◌&&◌, ◌||◌, List, [], ◌∷◌, ◌==◌, count_ones, nat_le}
+use Rattle.std.specs.Prelude.{ℕ, ◌-◌, ◌^◌, Bool, cond, not, ◌&&◌, ◌||◌, List, ◌==◌, count_ones, nat_le}
 use Rattle.masks.specs.Masks.{has, without, lowest, past, stretch}
 use Rattle.model.specs.Board.{Board, room}
 use Rattle.model.specs.Layout.{Layout, set_of}

@@ -6,7 +6,7 @@ ghost use Rattle.std.specs.Prelude.{◌≤◌, length, IfOk};
 use anyhow::anyhow;
 use kinds::SheetRule;
 use plan::draft::MOST_PLACES;
-use planner::sheet::print_sheet;
+use planner::printing::print_sheet;
 use sets::row::Row;
 use sheet::LONGEST;
 use std::io::{Read, Write};

@@ -7,7 +7,7 @@ use Rattle.masks.specs.Masks.{has, without, tally}
 use Rattle.masks.proofs.Masks.{has-and, has-zero, has-below}
 use Rattle.masks.proofs.Subsets.{has-ext, small, single-has, single-other}
 use Rattle.masks.proofs.Counts.{ones-tally}
-use Rattle.covering.specs.Covering.{Covering, Short, Avoidable, Allowed, Needed, candidate}
+use Rattle.covering.specs.Covering.{Covering, Short, Allowed, Needed, candidate}
 use Rattle.covering.proofs.Coverings.{widen}
 use Rattle.covering.proofs.Shorts.{short-needed}
 use Rattle.covering.proofs.Singles.{or-here, or-keeps, or-only, or-not, or-other, or-ones, drop_keeps, drop-only, drop-apart, drop-ones, left_out, less-has, less-only}

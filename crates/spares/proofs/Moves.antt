@@ -1,5 +1,5 @@
 -- A covering in which a slot is moved to another sensor, and the slots that are freed so. Assumes nothing.
-use Rattle.std.proofs.Common.{◌≡◌, ℕ, ◌^◌, ◌<◌, Bool, true, false, cond, eqb, ◌⊎◌, List, get_or, sym, refl, ap, ◌∙◌, subst, inl, inr}
+use Rattle.std.proofs.Common.{◌≡◌, ℕ, ◌^◌, Bool, true, false, cond, eqb, ◌⊎◌, List, get_or, sym, ◌∙◌, subst, inl, inr}
 use lib.Bits.{bit_and, bit_or}
 use Rattle.std.proofs.lemmas.Bool.{cases_eq, cases_Bool, both_ways, and_from, and_parts, or_cases, or_parts, or_left, or_right, cond-true, cond-false, eq-eqb, ne_eqb}
 use Rattle.masks.specs.Masks.{has, without}

@@ -1,9 +1,9 @@
 -- What a covering that the code holds tells of all sensors. Assumes nothing.
-use Rattle.std.proofs.Common.{◌≡◌, ℕ, ◌^◌, ◌<◌, ◌≤◌, Bool, true, false, ◌⊎◌, List, get_or, sym, ap, ◌∙◌, subst, inl, inr, arith}
+use Rattle.std.proofs.Common.{◌≡◌, ℕ, ◌^◌, ◌<◌, ◌≤◌, true, false, ◌⊎◌, List, get_or, sym, ap, ◌∙◌, subst, inl, inr, arith}
 use lib.Bits.{bit_and, bit_or}
 use Rattle.std.proofs.lemmas.Bool.{cases_eq, cases_Bool, both_ways, and_from, and_parts}
 use Rattle.masks.specs.Masks.{has, without, past}
-use Rattle.masks.proofs.Masks.{has-and, has-zero, has-below}
+use Rattle.masks.proofs.Masks.{has-and, has-zero}
 use Rattle.masks.proofs.Ends.{past_all}
 use Rattle.covering.specs.Covering.{Avoidable, Needed, candidate}
 use Rattle.covering.specs.Matching.{Busy}

@@ -1,5 +1,5 @@
 -- What numbers lead to, by edges: `edges` has for each number the mask of those next to it. Assumes nothing.
-use Rattle.std.specs.Prelude.{◌≡◌, ℕ, ◌<◌, Bool, true, false, cond, List, length, bit_or, slice_index}
+use Rattle.std.specs.Prelude.{◌≡◌, ℕ, ◌<◌, true, false, cond, List, length, bit_or, slice_index}
 use Rattle.masks.specs.Masks.{has}
 
 -- the mask `own`, with the members of `row` if it has k

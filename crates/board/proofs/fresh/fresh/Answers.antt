@@ -1,4 +1,4 @@
-use Rattle.std.proofs.Common.{◌≡◌, ℕ, ◌-◌, ◌^◌, ◌<◌, ◌≤◌, min, Bool, true, false, cond, sym, refl, ap, ◌∙◌, subst, arith, rules}
+use Rattle.std.proofs.Common.{◌≡◌, ℕ, ◌-◌, ◌^◌, ◌≤◌, min, Bool, true, false, cond, refl, ap, ◌∙◌, subst, arith, rules}
 use Rattle.masks.specs.Masks.{has}
 use Rattle.model.specs.Capacity.{most_sensors, most_sets}
 use Rattle.model.specs.Board.{board_of, room}

@@ -1,6 +1,5 @@
-use Rattle.std.proofs.Common.{◌≡◌, sym, ap, ◌∙◌}
+use Rattle.std.proofs.Common.{sym, ap, ◌∙◌}
 use Rattle.std.proofs.lemmas.Bool.{cond-true, cond-false}
-use Rattle.sheet.specs.Layout.{version, longest}
 use Rattle.load.specs.Loads.{load_fault, blank, first_fault}
 use Rattle.load.proofs.Walking.{opened, opened_in}
 use Rattle.load.proofs.Standing.{some-fault}

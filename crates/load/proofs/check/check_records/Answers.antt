@@ -1,8 +1,5 @@
-use Rattle.std.proofs.Common.{◌≡◌, ℕ, ◌^◌, ◌<◌, ◌≤◌, length, Ok, Option, sym, ap, ◌∙◌, arith, rules}
-use Rattle.model.specs.Calls.{State}
-use Rattle.board.specs.Numbers.{number}
+use Rattle.std.proofs.Common.{◌≡◌, ◌≤◌, Ok, Option, sym, ap, ◌∙◌, arith, rules}
 use Rattle.rule.proofs.Answers.{some_number}
-use Rattle.kinds.specs.declared.SheetRule.{SheetRule}
 use Rattle.sheet.specs.Layout.{longest}
 use Rattle.sheet.specs.Steps as sheet
 use Rattle.sheet.specs.declared.format.Record.{Record}

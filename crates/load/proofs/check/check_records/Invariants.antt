@@ -1,4 +1,4 @@
-use Rattle.std.proofs.Common.{ℕ, length}
+use Rattle.std.proofs.Common.{length}
 use Rattle.model.specs.Calls.{State}
 use Rattle.kinds.specs.declared.SheetRule.{SheetRule}
 use Rattle.sheet.specs.Files.{unread}

@@ -1,4 +1,4 @@
-use Rattle.std.proofs.Common.{◌≡◌, sym, refl, ap, ◌∙◌, rules}
+use Rattle.std.proofs.Common.{sym, refl, ap, ◌∙◌}
 use Rattle.load.specs.declared.act.Act.{Act}
 use Rattle.load.specs.Acts.{verdict, taken}
 use Rattle.load.specs.Loads.{state_of}

@@ -1,4 +1,4 @@
-use Rattle.std.proofs.Common.{◌≡◌, ℕ, None, Ok, Err, Option, sym, ap, ◌∙◌, arith}
+use Rattle.std.proofs.Common.{◌≡◌, Ok, Option, sym, ap, ◌∙◌}
 use Rattle.sheet.specs.declared.format.Record.{Record}
 use Rattle.sheet.specs.Steps as sheet
 use Rattle.load.specs.declared.act.Act.{Act}

@@ -1,4 +1,4 @@
-use Rattle.std.proofs.Common.{ℕ, false, ◌||◌, ltb, sym, refl, ap, ◌∙◌, ap₂, rules}
+use Rattle.std.proofs.Common.{ℕ, false, ◌||◌, ltb, sym, refl, ap, ◌∙◌, ap₂}
 use Rattle.model.specs.Calls.{State, does, post}
 use Rattle.board.specs.Model.{board}
 use Rattle.kinds.specs.SheetRules.{sheet_fault, sheet_run}

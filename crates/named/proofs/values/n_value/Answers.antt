@@ -1,4 +1,4 @@
-use Rattle.std.proofs.Common.{ℕ, false, eqb, ltb, sym, refl, ap, ◌∙◌, rules}
+use Rattle.std.proofs.Common.{ℕ, false, eqb, ltb, sym, refl, ap, ◌∙◌}
 use Rattle.model.specs.Calls.{does, post}
 use Rattle.board.specs.Model.{board}
 use Rattle.kinds.specs.SheetRules.{sheet_fault, sheet_run}

@@ -1,4 +1,4 @@
-use Rattle.std.proofs.Common.{◌+◌, ◌<◌, sym, ◌∙◌, subst₂, arith}
+use Rattle.std.proofs.Common.{◌+◌, ◌<◌, sym, subst₂, arith}
 use Rattle.roots.specs.Parts.{Listed, none_listed, one_listed, two_listed}
 use Rattle.roots.proofs.roots.list_parts.Goals as goal
 

@@ -1,4 +1,4 @@
-use Rattle.std.proofs.Common.{sym, ◌∙◌}
+use Rattle.std.proofs.Common.{sym}
 use Rattle.roots.proofs.Sweeps.{inside, outside, quiet}
 use Rattle.roots.proofs.roots.stir.Goals as goal
 

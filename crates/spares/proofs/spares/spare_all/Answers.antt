@@ -1,8 +1,7 @@
-use Rattle.std.proofs.Common.{◌≡◌, ℕ, replicate, sym, ap, ◌∙◌, rules}
+use Rattle.std.proofs.Common.{ℕ, replicate, sym, ap, ◌∙◌, rules}
 use Rattle.masks.specs.Masks.{has}
 use Rattle.masks.proofs.Masks.{has-below}
 use Rattle.covering.specs.Covering.{candidate}
-use Rattle.covering.specs.Notes.{sensor_of}
 use Rattle.covering.proofs.Held.{at-notes}
 use Rattle.covering.proofs.Singles.{less-only}
 use Rattle.spares.specs.Spares.{SparesOf}

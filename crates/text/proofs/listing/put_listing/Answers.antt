@@ -2,7 +2,7 @@ use Rattle.std.proofs.Common.{◌≡◌, true, false, sym, ◌∙◌, subst, ari
 use Rattle.std.proofs.lemmas.Bool.{not-true, not-false, cond-true, cond-false}
 use Rattle.model.specs.Box.{live}
 use Rattle.board.specs.Model.{board, model}
-use Rattle.text.specs.Lines.{Put, listing}
+use Rattle.text.specs.Lines.{Put}
 use Rattle.text.proofs.Puts.{put-join}
 use Rattle.text.proofs.listing.put_listing.Goals as goal
 

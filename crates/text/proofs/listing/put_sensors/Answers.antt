@@ -1,4 +1,4 @@
-use Rattle.std.proofs.Common.{◌≡◌, ◌≤◌, subst, arith, rules}
+use Rattle.std.proofs.Common.{◌≡◌, subst, arith}
 use Rattle.board.specs.Model.{board, model}
 use Rattle.text.specs.Lines.{Put, sensor_lines}
 use Rattle.text.proofs.Puts.{put-none, sensors-none, one-sensor}

@@ -1,4 +1,4 @@
-use Rattle.std.proofs.Common.{◌+◌, ◌*◌, ◌≤◌}
+use Rattle.std.proofs.Common.{◌*◌, ◌≤◌}
 use Rattle.board.specs.Model.{model}
 use Rattle.text.specs.Lines.{Put, sensor_lines}
 use Rattle.text.proofs.listing.put_sensors.Given as goal

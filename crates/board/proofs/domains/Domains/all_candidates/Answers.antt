@@ -1,4 +1,4 @@
-use Rattle.std.proofs.Common.{◌≡◌, sym}
+use Rattle.std.proofs.Common.{sym}
 use Rattle.board.proofs.Shapes.{cand-of}
 use Rattle.board.proofs.domains.Domains.all_candidates.Goals as goal
 

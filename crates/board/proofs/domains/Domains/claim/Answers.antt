@@ -1,4 +1,4 @@
-use Rattle.std.proofs.Common.{◌≡◌, true, false, sym, refl, ◌∙◌}
+use Rattle.std.proofs.Common.{◌≡◌, true, sym, refl, ◌∙◌}
 use Rattle.std.proofs.lemmas.Bool.{le-ltb, not-true, not-false}
 use Rattle.model.specs.Box.{live}
 use Rattle.model.specs.Entries.{claim}

@@ -1,4 +1,4 @@
-use Rattle.std.proofs.Common.{refl, arith}
+use Rattle.std.proofs.Common.{refl}
 use Rattle.model.specs.Capacity.{most_sensors, most_sets}
 use Rattle.board.specs.Model.{board}
 use Rattle.board.proofs.Shapes.{zeros, zero-below, dead-of}

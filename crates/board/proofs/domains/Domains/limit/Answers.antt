@@ -1,4 +1,4 @@
-use Rattle.std.proofs.Common.{ltb, sym, refl, ◌∙◌}
+use Rattle.std.proofs.Common.{refl}
 use Rattle.std.proofs.lemmas.Bool.{le-ltb}
 use Rattle.model.specs.Entries.{limit}
 use Rattle.board.proofs.Words.{off-board, limit-none, limit-kills, limit-left, limit-writes, limit-box, limit-rows}

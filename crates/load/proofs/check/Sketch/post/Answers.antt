@@ -1,4 +1,4 @@
-use Rattle.std.proofs.Common.{◌≡◌, ℕ, ◌<◌, min, sym, ◌∙◌, ap₂, arith, rules}
+use Rattle.std.proofs.Common.{◌<◌, min, sym, ◌∙◌, ap₂, rules}
 use Rattle.std.proofs.lemmas.Bool.{leb-false}
 use Rattle.model.specs.Capacity.{most_places}
 use Rattle.model.specs.Refusals.{earlier}

@@ -1,4 +1,4 @@
-use Rattle.std.proofs.Common.{◌≡◌, ℕ, ◌-◌, min, length, take, ap, ◌∙◌, arith}
+use Rattle.std.proofs.Common.{arith}
 use Rattle.model.specs.Capacity.{most_places}
 use Rattle.plan.proofs.Tables.{free-some, free-none}
 use Rattle.plan.proofs.draft.Draft.free.Goals as goal

@@ -1,4 +1,4 @@
-use Rattle.std.proofs.Common.{◌≡◌, ℕ, ◌<◌, false, length, sym, refl, ap, ◌∙◌, ap₂, arith, length-set, rules}
+use Rattle.std.proofs.Common.{◌≡◌, ◌<◌, false, length, refl, ap, ◌∙◌, ap₂, length-set, rules}
 use Rattle.model.specs.Capacity.{most_places}
 use Rattle.model.specs.Refusals.{earlier}
 use Rattle.board.specs.Model.{board, model}

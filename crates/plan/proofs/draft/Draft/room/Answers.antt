@@ -1,4 +1,4 @@
-use Rattle.std.proofs.Common.{◌≡◌, min, length, take, sym, refl, arith}
+use Rattle.std.proofs.Common.{min, length, take, sym, arith}
 use Rattle.std.proofs.lemmas.Bool.{cond-true, cond-false, le-leb, lt-leb}
 use Rattle.model.specs.Capacity.{most_places}
 use Rattle.plan.proofs.Tables.{full-yes, full-no}

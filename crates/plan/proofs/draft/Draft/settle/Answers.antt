@@ -1,9 +1,5 @@
-use Rattle.std.proofs.Common.{◌≡◌, true, false, length, take, refl, ap, ap₂, rules}
-use Rattle.model.specs.Board.{Board}
-use Rattle.model.specs.Box.{Box}
-use Rattle.model.specs.Calls.{State}
+use Rattle.std.proofs.Common.{true, false, length, take, rules}
 use Rattle.model.proofs.Mixes.{mixes-stand}
-use Rattle.board.specs.Model.{board, model}
 use Rattle.plan.specs.States.{state}
 use Rattle.plan.proofs.Trusting.{trusted}
 use Rattle.plan.proofs.draft.Draft.settle.Goals as goal

@@ -1,5 +1,4 @@
 use Rattle.std.proofs.Common.{sym}
-use Rattle.board.specs.Model.{board, model}
 use Rattle.rule.proofs.Answers.{ran, skipped}
 use Rattle.range.specs.Ranges.{range_fault, range_run}
 use Rattle.range.proofs.range.RangeRule.narrow.Goals as goal

@@ -1,4 +1,4 @@
-use Rattle.std.proofs.Common.{ℕ, ◌<◌, ◌≤◌, true, List, length, sym, refl, ap, ◌∙◌, subst}
+use Rattle.std.proofs.Common.{ℕ, ◌<◌, ◌≤◌, true, List, length, refl, ap, subst}
 use Rattle.board.specs.Model.{board, model}
 use Rattle.text.specs.Lines.{longest_listing}
 use Rattle.text.specs.Printed.{Printed}
@@ -7,7 +7,7 @@ use Rattle.plan.specs.States.{state}
 use Rattle.load.specs.Loads.{state_of}
 use Rattle.load.proofs.Texts.{text-listing, text-refused}
 use Rattle.planner.proofs.Sheeted.{sheeted}
-use Rattle.planner.proofs.sheet.print_sheet.Goals as goal
+use Rattle.planner.proofs.printing.print_sheet.Goals as goal
 
 pub returns-in-Ok : goal.returns-in-Ok
 returns-in-Ok c =
