@@ -1,6 +1,6 @@
 -- A rule that is asked whether it fits, and skipped where it does not. Assumes nothing.
 use Rattle.std.proofs.Common.{◌≡◌, ℕ, ◌<◌, Bool, true, false, List, [], ◌∷◌, map, refl, ap, true≢false}
-use Rattle.std.specs.List.{AllByRecursion as All}
+use Rattle.std.specs.List.{AllByRecursion}
 use Rattle.model.specs.Board.{Board}
 use Rattle.model.specs.Box.{Box, In, Kept}
 use Rattle.model.specs.Laws.{Lawful, Laws, Narrows, Restful, asked, fits, heeded}
@@ -44,7 +44,7 @@ module _ {R : Type 0} {fault : Board → R → ℕ} {holds : Board → R → Lay
   pub asked-narrows : (r : R) → Narrows bd (asked fault run bd r)
   asked-narrows r = narrows-of bd _ _ (asked-laws r)
 
-  pub all_asked : (rs : List R) → All (Narrows bd) (map (asked fault run bd) rs)
+  pub all_asked : (rs : List R) → AllByRecursion (Narrows bd) (map (asked fault run bd) rs)
   all_asked [] = tt
   all_asked (r ∷ rs) = (asked-narrows r, all_asked rs)
 

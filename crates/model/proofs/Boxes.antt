@@ -3,7 +3,7 @@ use Rattle.std.proofs.Common.{◌≡◌, ℕ, zero, suc, ◌^◌, ◌<◌, ◌�
 use mathlib.Core.Bool.{false≢true}
 use lib.ListN.{length-replicate, get_or-replicate}
 use lib.Pow.{pow-lt}
-use Rattle.std.specs.List.{AllByRecursion as All}
+use Rattle.std.specs.List.{AllByRecursion}
 use Rattle.std.proofs.lemmas.Bool.{both_ways, not-true, ltb-true, eqb-true, lt-ltb, le-ltb, eq-eqb, cases_lt, and_parts, cases_Bool, and_from, and_left, not_from_false, cond-true, cond-false}
 use Rattle.std.proofs.lemmas.List.{ext_get_or, get_or_past}
 use Rattle.masks.specs.Masks.{has, within}
@@ -238,7 +238,7 @@ module _ (bd : Board) (some : 0 < bd.sensors) where
   unfolding hull
   hull-highs-many xs = tab-length (λ j. union (λ x. set_of x j) xs) bd.sets
 
-  hull-live : (x : Layout) (xs : List Layout) → All (On bd) (x ∷ xs) → Live bd (hull bd (x ∷ xs))
+  hull-live : (x : Layout) (xs : List Layout) → AllByRecursion (On bd) (x ∷ xs) → Live bd (hull bd (x ∷ xs))
   hull-live x xs o =
       let ys = x ∷ xs in
       let on : (y : Layout) → Mem y ys → On bd y = all-mem (On bd) ys o in
@@ -260,7 +260,7 @@ module _ (bd : Board) (some : 0 < bd.sensors) where
   unfolding hull dead union shared
   hull-none = λ i. record { cands = tab-zero bd.sensors i; lows = tab-zero bd.sets i; highs = tab-zero bd.sets i }
 
-  hull-offers : (x : Layout) (xs : List Layout) → All (On bd) (x ∷ xs) → (c : Choice) → offers bd (hull bd (x ∷ xs)) c ≡ any (λ y. uses bd y c) (x ∷ xs)
+  hull-offers : (x : Layout) (xs : List Layout) → AllByRecursion (On bd) (x ∷ xs) → (c : Choice) → offers bd (hull bd (x ∷ xs)) c ≡ any (λ y. uses bd y c) (x ∷ xs)
   unfolding uses
   hull-offers x xs o (slotted i s) =
       let ys = x ∷ xs in
@@ -290,11 +290,11 @@ module _ (bd : Board) (some : 0 < bd.sensors) where
             ∙ sym (any_none (λ y. (ltb j bd.sets && ltb v (room bd j)) && not (has (set_of y j) v)) ys (λ y m. and_left _ _ e))
       ]
 
-  hull-choice : (xs : List Layout) → All (On bd) xs → (c : Choice) → choice bd (hull bd xs) c ≡ any (λ y. uses bd y c) xs
+  hull-choice : (xs : List Layout) → AllByRecursion (On bd) xs → (c : Choice) → choice bd (hull bd xs) c ≡ any (λ y. uses bd y c) xs
   hull-choice [] o c = choice-not (hull bd []) (ap (live bd) hull-none ∙ live-dead) c
   hull-choice (x ∷ xs) o c = choice-live (hull bd (x ∷ xs)) (live-true _ (hull-live x xs o)) c ∙ hull-offers x xs o c
 
-  hull-kept : (xs : List Layout) → All (On bd) xs → Kept bd (hull bd xs)
+  hull-kept : (xs : List Layout) → AllByRecursion (On bd) xs → Kept bd (hull bd xs)
   hull-kept [] o = inl hull-none
   hull-kept (x ∷ xs) o = inr (hull-live x xs o)
 

@@ -1,6 +1,6 @@
 -- A rule that holds where all of some rules hold, and runs by settling them, has their laws. Assumes nothing.
 use Rattle.std.proofs.Common.{◌≡◌, ℕ, ◌<◌, Bool, true, false, ◌⊎◌, List, [], ◌∷◌, map, refl, ap, ◌∙◌, subst, ap₂, inl, inr}
-use Rattle.std.specs.List.{AllByRecursion as All}
+use Rattle.std.specs.List.{AllByRecursion}
 use Rattle.std.proofs.lemmas.Bool.{both_ways, cases_Bool}
 use Rattle.model.specs.Board.{Board}
 use Rattle.model.specs.Box.{Box, In, Kept, choice, dead, size}
@@ -17,30 +17,30 @@ use Rattle.model.proofs.Tight.{from, no-choice, ordering, settling}
 -- ---- what a list of runs settles to, where each has its laws
 
 module _ {Q : Type 0} (bd : Board) (some : 0 < bd.sensors) (holds : Q → Layout → Bool) (run : Q → Box → Box)
-    (qs : List Q) (laws : All (λ q. Laws bd (holds q) (run q)) qs) where
+    (qs : List Q) (laws : AllByRecursion (λ q. Laws bd (holds q) (run q)) qs) where
   law : (q : Q) → Mem q qs → Laws bd (holds q) (run q)
   law = all-mem (λ q. Laws bd (holds q) (run q)) qs laws
 
-  all-narrow : All (Narrows bd) (map run qs)
+  all-narrow : AllByRecursion (Narrows bd) (map run qs)
   all-narrow = all-to-map (Narrows bd) run qs (mem-all (λ q. Narrows bd (run q)) qs (λ q m. narrows-of bd (holds q) (run q) (law q m)))
 
   rest : (b : Box) → Kept bd b → Largest bd (map run qs) b (settled bd (map run qs) b)
   rest b k = (settling bd some).made (map run qs) all-narrow b k
 
   -- a box that no run changes is its own settled box
-  still-settled : (b : Box) → Kept bd b → All (λ r. r b ≡ b) (map run qs) → settled bd (map run qs) b ≡ b
+  still-settled : (b : Box) → Kept bd b → AllByRecursion (λ r. r b ≡ b) (map run qs) → settled bd (map run qs) b ≡ b
   still-settled b k h =
       let s = rest b k in
       (ordering bd some).one _ b s.kept k s.inside (s.largest b k ((ordering bd some).itself b k) h)
 
   -- and a settled box one that no run changes
   pub each-still : (b : Box) → Kept bd b → settled bd (map run qs) b ≡ b → (q : Q) → Mem q qs → run q b ≡ b
-  each-still b k e q m = all-mem (λ q. run q b ≡ b) qs (all_of_map (λ r. r b ≡ b) run qs (subst (λ c. All (λ r. r c ≡ c) (map run qs)) e (rest b k).still)) q m
+  each-still b k e q m = all-mem (λ q. run q b ≡ b) qs (all_of_map (λ r. r b ≡ b) run qs (subst (λ c. AllByRecursion (λ r. r c ≡ c) (map run qs)) e (rest b k).still)) q m
 
   pub bundle-rests : Rests bd (settled bd (map run qs))
   bundle-rests b k = let s = rest b k in still-settled _ s.kept s.still
 
-  each-or-one : (x : Layout) (ps : List Q) → All (λ q. holds q x ≡ true) ps ⊎ ((q : Q) × Mem q ps × (holds q x ≡ false))
+  each-or-one : (x : Layout) (ps : List Q) → AllByRecursion (λ q. holds q x ≡ true) ps ⊎ ((q : Q) × Mem q ps × (holds q x ≡ false))
   each-or-one x [] = inl tt
   each-or-one x (p ∷ ps) = elim (cases_Bool (holds p x)) [
     | inl h ↦ elim (each-or-one x ps) [ inl a ↦ inl (h, a) | inr o ↦ inr (o.0, inr o.1, o.2) ]
@@ -49,8 +49,8 @@ module _ {Q : Type 0} (bd : Board) (some : 0 < bd.sensors) (holds : Q → Layout
 
   -- ---- the rule of them all
 
-  module _ (whole : Layout → Bool) (Whole-each : (x : Layout) → whole x ≡ true → All (λ q. holds q x ≡ true) qs)
-      (each-whole : (x : Layout) → All (λ q. holds q x ≡ true) qs → whole x ≡ true) where
+  module _ (whole : Layout → Bool) (Whole-each : (x : Layout) → whole x ≡ true → AllByRecursion (λ q. holds q x ≡ true) qs)
+      (each-whole : (x : Layout) → AllByRecursion (λ q. holds q x ≡ true) qs → whole x ≡ true) where
     pub bundle-laws : Laws bd whole (settled bd (map run qs))
     bundle-laws = record {
       kept = λ b k. (rest b k).kept;
@@ -81,7 +81,7 @@ module _ {Q : Type 0} (bd : Board) (some : 0 < bd.sensors) (holds : Q → Layout
             (from bd some _ (run q b) (l.kept _ s.kept) (l.kept b k) (l.monotone _ b s.kept k s.inside) c (ap (λ y. choice bd y c) fixed ∙ e)))
 
 -- rules that all fit are asked in vain
-pub asked-all : {R : Type 0} (fault : Board → R → ℕ) (run : Board → R → Box → Box) (bd : Board) (rs : List R) → All (λ r. fits fault bd r ≡ true) rs
+pub asked-all : {R : Type 0} (fault : Board → R → ℕ) (run : Board → R → Box → Box) (bd : Board) (rs : List R) → AllByRecursion (λ r. fits fault bd r ≡ true) rs
     → map (asked fault run bd) rs ≡ map (run bd) rs
 asked-all fault run bd [] h = refl
 asked-all fault run bd (r ∷ rs) h =

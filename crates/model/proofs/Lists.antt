@@ -1,7 +1,7 @@
 -- Members of lists, lists made from a function of the place, and unions of masks. Assumes nothing.
 use Rattle.std.proofs.Common.{◌≡◌, ℕ, zero, suc, ◌^◌, ◌<◌, Bool, true, false, not, ◌&&◌, ◌||◌, ◌⊎◌, List, [], ◌∷◌, ◌++◌, map, length, get_or, sym, refl, ap, ◌∙◌, subst, inl, inr, arith, pow_pos}
 use lib.Bits.{and_le_l, or_lt}
-use Rattle.std.specs.List.{AllByRecursion as All}
+use Rattle.std.specs.List.{AllByRecursion}
 use Rattle.std.proofs.lemmas.Bool.{both_ways, and_parts, cases_eq, and_from, or_cases, or_left, or_right}
 use Rattle.masks.specs.Masks.{has}
 use Rattle.masks.proofs.Masks.{has-and, has-or, has-zero}
@@ -10,29 +10,29 @@ use Rattle.model.specs.Calls.{Alike, Mem}
 use Rattle.model.specs.Layout.{Layout, layout}
 use Rattle.model.specs.Tight.{before, below, choose, keep, pairs, shared, union}
 
-pub all-mem : {X : Type 0} (P : X → Type 0) (xs : List X) → All P xs → (x : X) → Mem x xs → P x
+pub all-mem : {X : Type 0} (P : X → Type 0) (xs : List X) → AllByRecursion P xs → (x : X) → Mem x xs → P x
 all-mem P [] a x m = absurd m
 all-mem P (y ∷ ys) a x m = elim m [ inl e ↦ subst P (sym e) a.0 | inr n ↦ all-mem P ys a.1 x n ]
 
-pub mem-all : {X : Type 0} (P : X → Type 0) (xs : List X) → ((x : X) → Mem x xs → P x) → All P xs
+pub mem-all : {X : Type 0} (P : X → Type 0) (xs : List X) → ((x : X) → Mem x xs → P x) → AllByRecursion P xs
 mem-all P [] f = tt
 mem-all P (y ∷ ys) f = (f y (inl refl), mem-all P ys (λ x m. f x (inr m)))
 
-pub all_alike : {X : Type 0} (P : X → Type 0) (xs ys : List X) → Alike xs ys → All P xs → All P ys
+pub all_alike : {X : Type 0} (P : X → Type 0) (xs ys : List X) → Alike xs ys → AllByRecursion P xs → AllByRecursion P ys
 all_alike P xs ys s a = mem-all P ys (λ x m. all-mem P xs a x (s.back x m))
 
 pub alike-sym : {X : Type 0} (xs ys : List X) → Alike xs ys → Alike ys xs
 alike-sym xs ys s = record { there = s.back; back = s.there }
 
-pub all_of_map : {X Y : Type 0} (P : Y → Type 0) (f : X → Y) (xs : List X) → All P (map f xs) → All (λ x. P (f x)) xs
+pub all_of_map : {X Y : Type 0} (P : Y → Type 0) (f : X → Y) (xs : List X) → AllByRecursion P (map f xs) → AllByRecursion (λ x. P (f x)) xs
 all_of_map P f [] a = tt
 all_of_map P f (x ∷ xs) a = (a.0, all_of_map P f xs a.1)
 
-pub all-to-map : {X Y : Type 0} (P : Y → Type 0) (f : X → Y) (xs : List X) → All (λ x. P (f x)) xs → All P (map f xs)
+pub all-to-map : {X Y : Type 0} (P : Y → Type 0) (f : X → Y) (xs : List X) → AllByRecursion (λ x. P (f x)) xs → AllByRecursion P (map f xs)
 all-to-map P f [] a = tt
 all-to-map P f (x ∷ xs) a = (a.0, all-to-map P f xs a.1)
 
-pub all-every : {X : Type 0} (P : X → Type 0) → ((x : X) → P x) → (xs : List X) → All P xs
+pub all-every : {X : Type 0} (P : X → Type 0) → ((x : X) → P x) → (xs : List X) → AllByRecursion P xs
 all-every P f [] = tt
 all-every P f (x ∷ xs) = (f x, all-every P f xs)
 
@@ -70,12 +70,12 @@ mem-keep {X} p (y ∷ ys) x m e = go (p y) refl m (λ n. mem-keep p ys x n e)
     go true f m again = elim m [ inl q ↦ inl q | inr n ↦ inr (again n) ]
     go false f m again = elim m [ inl q ↦ absurd (both_ways (p y) f (ap p (sym q) ∙ e)) | inr n ↦ again n ]
 
-pub all_keep : {X : Type 0} (P : X → Type 0) (p : X → Bool) (xs : List X) → ((x : X) → Mem x xs → P x) → All P (keep p xs)
+pub all_keep : {X : Type 0} (P : X → Type 0) (p : X → Bool) (xs : List X) → ((x : X) → Mem x xs → P x) → AllByRecursion P (keep p xs)
 unfolding keep
 all_keep P p [] f = tt
 all_keep {X} P p (y ∷ ys) f = go (p y) (all_keep P p ys (λ x m. f x (inr m)))
   where
-    go : (t : Bool) → All P (keep p ys) → All P (elim t [ true ↦ y ∷ keep p ys | false ↦ keep p ys ])
+    go : (t : Bool) → AllByRecursion P (keep p ys) → AllByRecursion P (elim t [ true ↦ y ∷ keep p ys | false ↦ keep p ys ])
     go true a = (f y (inl refl), a)
     go false a = a
 

@@ -1,6 +1,6 @@
 -- What a mix of calls comes to. Assumes nothing.
 use Rattle.std.proofs.Common.{◌≡◌, ℕ, ◌<◌, Bool, true, false, cond, eqb, leb, List, [], ◌∷◌, ◌++◌, map, sym, refl, ap, ◌∙◌, subst, ap₂, inl, inr, append_assoc, append-nil, arith}
-use Rattle.std.specs.List.{AllByRecursion as All}
+use Rattle.std.specs.List.{AllByRecursion}
 use Rattle.std.proofs.lemmas.Bool.{both_ways, eqb-true, lt-ltb, le-leb, eq-eqb, ne_eqb, cases_lt, cases_eq, cases_Bool, cond-true, cond-false}
 use Rattle.std.proofs.ByRecursion.{All-weaker}
 use Rattle.model.specs.Board.{Board}
@@ -125,26 +125,26 @@ module _ {R : Type 0} (fault : Board → R → ℕ) (run : Board → R → Box �
   rules_are (reopen ∷ cs) s = rules_are cs (does fault run reopen s)
 
   -- accepted rules fit the board, and accepted entries name something on it
-  pub posted-fit : (cs : List (Call R)) (s : State R) → All (λ r. fits fault s.board r ≡ true) (posted fault run cs s)
+  pub posted-fit : (cs : List (Call R)) (s : State R) → AllByRecursion (λ r. fits fault s.board r ≡ true) (posted fault run cs s)
   unfolding posted
   posted-fit [] s = tt
   posted-fit (enter e ∷ cs) s = posted-fit cs (does fault run (enter e) s)
   posted-fit (post q ∷ cs) s = go (eqb (answer fault run (post q) s) 0) refl (posted-fit cs (does fault run (post q) s))
     where
-      go : (t : Bool) → eqb (answer fault run (post q) s) 0 ≡ t → All (λ r. fits fault s.board r ≡ true) (posted fault run cs (does fault run (post q) s))
-          → All (λ r. fits fault s.board r ≡ true) (elim t [ true ↦ q ∷ posted fault run cs (does fault run (post q) s) | false ↦ posted fault run cs (does fault run (post q) s) ])
+      go : (t : Bool) → eqb (answer fault run (post q) s) 0 ≡ t → AllByRecursion (λ r. fits fault s.board r ≡ true) (posted fault run cs (does fault run (post q) s))
+          → AllByRecursion (λ r. fits fault s.board r ≡ true) (elim t [ true ↦ q ∷ posted fault run cs (does fault run (post q) s) | false ↦ posted fault run cs (does fault run (post q) s) ])
       go true e a = (eq-eqb (fault s.board q) 0 (earlier-none (fault s.board q) (cond (no_place s) 8 0) (eqb-true (answer fault run (post q) s) 0 e)), a)
       go false e a = a
   posted-fit (settle ∷ cs) s = posted-fit cs (does fault run settle s)
   posted-fit (reopen ∷ cs) s = posted-fit cs (does fault run reopen s)
 
-  pub entered-placed : (cs : List (Call R)) (s : State R) → All (λ e. placed s.board e ≡ true) (entered fault run cs s)
+  pub entered-placed : (cs : List (Call R)) (s : State R) → AllByRecursion (λ e. placed s.board e ≡ true) (entered fault run cs s)
   unfolding entered
   entered-placed [] s = tt
   entered-placed (enter e ∷ cs) s = go (eqb (answer fault run (enter e) s) 0) refl (entered-placed cs (does fault run (enter e) s))
     where
-      go : (t : Bool) → eqb (answer fault run (enter e) s) 0 ≡ t → All (λ e. placed s.board e ≡ true) (entered fault run cs (does fault run (enter e) s))
-          → All (λ e. placed s.board e ≡ true) (elim t [ true ↦ e ∷ entered fault run cs (does fault run (enter e) s) | false ↦ entered fault run cs (does fault run (enter e) s) ])
+      go : (t : Bool) → eqb (answer fault run (enter e) s) 0 ≡ t → AllByRecursion (λ e. placed s.board e ≡ true) (entered fault run cs (does fault run (enter e) s))
+          → AllByRecursion (λ e. placed s.board e ≡ true) (elim t [ true ↦ e ∷ entered fault run cs (does fault run (enter e) s) | false ↦ entered fault run cs (does fault run (enter e) s) ])
       go true q a = (accepted-placed s.board e (eqb-true _ 0 q), a)
       go false q a = a
   entered-placed (post q ∷ cs) s = entered-placed cs (does fault run (post q) s)
@@ -187,14 +187,14 @@ module _ {R : Type 0} {fault : Board → R → ℕ} {holds : Board → R → Lay
     | inr t ↦ absurd (both_ways _ (ap (live bd) (sym e ∙ l.dies b kb x only t) ∙ live-dead bd some) (in-live bd some b x only.on only.inside))
   ]
 
-  rule-kept : (b : Box) → Kept bd b → (x : Layout) → Only bd b x → (rs : List R) → All (λ r. fits fault bd r ≡ true) rs → All (λ r. asked fault run bd r b ≡ b) rs → All (λ r. holds bd r x ≡ true) rs
+  rule-kept : (b : Box) → Kept bd b → (x : Layout) → Only bd b x → (rs : List R) → AllByRecursion (λ r. fits fault bd r ≡ true) rs → AllByRecursion (λ r. asked fault run bd r b ≡ b) rs → AllByRecursion (λ r. holds bd r x ≡ true) rs
   rule-kept b kb x o [] f a = tt
   rule-kept b kb x o (r ∷ rs) f a = (
     left-holds (holds bd r) (run bd r) (lawful.laws bd some r f.0) b kb (sym (asked-fits fault run bd r b f.0) ∙ a.0) x o,
     rule-kept b kb x o rs f.1 a.1,
   )
 
-  entry_kept : (b : Box) → Kept bd b → (x : Layout) → Only bd b x → (es : List Entry) → All (λ e. placed bd e ≡ true) es → All (λ e. narrow bd e b ≡ b) es → All (λ e. keeps e x ≡ true) es
+  entry_kept : (b : Box) → Kept bd b → (x : Layout) → Only bd b x → (es : List Entry) → AllByRecursion (λ e. placed bd e ≡ true) es → AllByRecursion (λ e. narrow bd e b ≡ b) es → AllByRecursion (λ e. keeps e x ≡ true) es
   entry_kept b kb x o [] p a = tt
   entry_kept b kb x o (e ∷ es) p a = (
     left-holds (keeps e) (tight bd (keeps e)) (tightness bd some (keeps e)).laws b kb (sym (narrow-is bd some e b p.0 kb) ∙ a.0) x o,
@@ -216,7 +216,7 @@ module _ {R : Type 0} {fault : Board → R → ℕ} {holds : Board → R → Lay
   abbrev Holds-on : Layout → R → Type 0
   Holds-on x r = (b : Box) → Kept bd b × In bd x b → Kept bd (asked fault run bd r b) × In bd x (asked fault run bd r b)
 
-  rule-keeps : (x : Layout) → On bd x → (rs : List R) → All (λ r. holds bd r x ≡ true) rs → All (Holds-on x) rs
+  rule-keeps : (x : Layout) → On bd x → (rs : List R) → AllByRecursion (λ r. holds bd r x ≡ true) rs → AllByRecursion (Holds-on x) rs
   rule-keeps x o rs h = All-weaker (λ r. holds bd r x ≡ true) (Holds-on x) (λ r h b n. ((asked-narrows lawful bd some r).kept b n.0, asked-keeps lawful bd some r b n.0 x o n.1 h)) rs h
 
   kept-so-far : (p : ℕ) (g : List (Call R)) (x : Layout) → On bd x → In bd x start → KeepsAll fault holds run bd g (from_places p) x → In bd x (after fault run g (from_places p)).box
@@ -224,9 +224,9 @@ module _ {R : Type 0} {fault : Board → R → ℕ} {holds : Board → R → Lay
       let s = from_places p in
       subst (In bd x) (after-box fault run g s) (history-holds (size bd) (narrow bd) (asked fault run bd) (λ b. Kept bd b × In bd x b) (steps fault run g s) [] start (k, i)
       (All-weaker (λ e. keeps e x ≡ true) (λ e. (b : Box) → Kept bd b × In bd x b → Kept bd (narrow bd e b) × In bd x (narrow bd e b))
-      (λ e h b n. ((entry-narrows bd some e).kept b n.0, entry-keeps bd some e b x n.0 o n.1 (λ _. h))) _ (subst (All (λ e. keeps e x ≡ true)) (sym (entered-is fault run g s)) kept.entries))
+      (λ e h b n. ((entry-narrows bd some e).kept b n.0, entry-keeps bd some e b x n.0 o n.1 (λ _. h))) _ (subst (AllByRecursion (λ e. keeps e x ≡ true)) (sym (entered-is fault run g s)) kept.entries))
       tt
-      (rule-keeps x o _ (subst (All (λ r. holds bd r x ≡ true)) (sym (posted-is fault run g s)) kept.rules))).1
+      (rule-keeps x o _ (subst (AllByRecursion (λ r. holds bd r x ≡ true)) (sym (posted-is fault run g s)) kept.rules))).1
 
   pub mixes : Mixes fault holds run bd start
   mixes = record {

@@ -1,7 +1,7 @@
 -- How to show that a run made of entries is the tight box of a rule. Assumes nothing.
 use Rattle.std.proofs.Common.{◌≡◌, ◌<◌, Bool, true, false, ◌||◌, List, [], ◌∷◌, sym, refl, ap, ◌∙◌, subst, inl, inr, true≢false, arith}
 use mathlib.Core.Bool.{false≢true}
-use Rattle.std.specs.List.{AllByRecursion as All}
+use Rattle.std.specs.List.{AllByRecursion}
 use Rattle.std.proofs.lemmas.Bool.{both_ways, cases_Bool}
 use Rattle.model.specs.Board.{Board}
 use Rattle.model.specs.Box.{Box, Choice, In, Inside, Kept, Live, choice, dead, live, offers, size}
@@ -36,7 +36,7 @@ module _ (bd : Board) (some : 0 < bd.sensors) where
       let kn = (entry-narrows bd some e).kept b k in
       (ordering bd some).chain _ (narrow bd e b) b (narrowed-kept es (narrow bd e b) kn) kn k (narrowed-inside es (narrow bd e b) kn) ((entry-narrows bd some e).shrinks b k)
 
-  narrowed-in : (es : List Entry) (b : Box) (x : Layout) → Kept bd b → On bd x → In bd x b → All (λ e. keeps e x ≡ true) es → In bd x (narrowed (narrow bd) es b)
+  narrowed-in : (es : List Entry) (b : Box) (x : Layout) → Kept bd b → On bd x → In bd x b → AllByRecursion (λ e. keeps e x ≡ true) es → In bd x (narrowed (narrow bd) es b)
   narrowed-in [] b x k o n h = n
   narrowed-in (e ∷ es) b x k o n h = narrowed-in es (narrow bd e b) x ((entry-narrows bd some e).kept b k) o (entry-keeps bd some e b x k o n (λ _. h.0)) h.1
 
@@ -45,7 +45,7 @@ module _ (bd : Board) (some : 0 < bd.sensors) where
     r = narrowed (narrow bd) es b
 
     -- sound: every support keeps each entry; complete: each choice that is left has a support
-    pub entries-tight : ((x : Layout) → On bd x → In bd x b → holds x ≡ true → All (λ e. keeps e x ≡ true) es)
+    pub entries-tight : ((x : Layout) → On bd x → In bd x b → holds x ≡ true → AllByRecursion (λ e. keeps e x ≡ true) es)
         → (Live bd r → (c : Choice) → offers bd r c ≡ true → Supported bd holds r c)
         → r ≡ tight bd holds b
     entries-tight sound complete =
@@ -111,7 +111,7 @@ module _ (bd : Board) (some : 0 < bd.sensors) where
   no-live b (inr l) e = absurd (both_ways _ e (live-true bd some b l))
 
   -- several entries that leave the box live did what their words say
-  pub narrowed-cut : (es : List Entry) (b : Box) → All (λ e. placed bd e ≡ true) es → Kept bd b → Live bd (narrowed (narrow bd) es b) → Live bd b × (narrowed (narrow bd) es b ≡ narrowed cut es b)
+  pub narrowed-cut : (es : List Entry) (b : Box) → AllByRecursion (λ e. placed bd e ≡ true) es → Kept bd b → Live bd (narrowed (narrow bd) es b) → Live bd b × (narrowed (narrow bd) es b ≡ narrowed cut es b)
   narrowed-cut [] b p k l = (l, refl)
   narrowed-cut (e ∷ es) b p k l =
       let rest = narrowed-cut es (narrow bd e b) p.1 ((entry-narrows bd some e).kept b k) l in

@@ -1,7 +1,7 @@
 -- Rules on one set: their tight box by masks alone. Assumes nothing.
 use Rattle.std.proofs.Common.{◌≡◌, ℕ, ◌^◌, ◌<◌, Bool, true, false, eqb, List, [], ◌∷◌, sym, ap, ◌∙◌, subst, ap₂, subst₂, inl, inr}
 use lib.Bits.{bit_and, bit_or}
-use Rattle.std.specs.List.{AllByRecursion as All}
+use Rattle.std.specs.List.{AllByRecursion}
 use Rattle.std.proofs.lemmas.Bool.{lt-ltb, cases_eq}
 use Rattle.masks.specs.Masks.{has, within, without}
 use Rattle.masks.proofs.Subsets.{within-self}
@@ -74,7 +74,7 @@ module _ (bd : Board) (some : 0 < bd.sensors) (a : ℕ) (ha : a < bd.sets) (ok :
     abbrev r : Box
     r = narrowed (narrow bd) es x
 
-    placed-all : All (λ e. placed bd e ≡ true) es
+    placed-all : AllByRecursion (λ e. placed bd e ≡ true) es
     placed-all = (lt-ltb a bd.sets ha, (lt-ltb a bd.sets ha, tt))
 
     module _ (lr : Live bd r) where
@@ -101,7 +101,7 @@ module _ (bd : Board) (some : 0 < bd.sensors) (a : ℕ) (ha : a < bd.sets) (ok :
     unfolding keeps
     one-tight sound spread = entries-tight bd some passes es x k keep full
       where
-        keep : (y : Layout) → On bd y → In bd y x → passes y ≡ true → All (λ e. keeps e y ≡ true) es
+        keep : (y : Layout) → On bd y → In bd y x → passes y ≡ true → AllByRecursion (λ e. keeps e y ≡ true) es
         keep y o i e = let w = sound (set_of y a) (o.sets_on a ha) (i.over a ha) (i.under a ha) e in (w.0, (w.1, tt))
 
         full : Live bd r → (ch : Choice) → offers bd r ch ≡ true → Supported bd passes r ch

@@ -1,7 +1,7 @@
 -- The settled box over any order of boxes: rounds come to the largest box that no run changes. Assumes nothing.
 -- boxes with an order, and a size that falls with it
 use Rattle.std.proofs.Common.{◌≡◌, ℕ, zero, suc, ◌<◌, ◌≤◌, Bool, true, false, ltb, ◌⊎◌, List, [], ◌∷◌, sym, refl, subst, inl, inr, arith}
-use Rattle.std.specs.List.{AllByRecursion as All}
+use Rattle.std.specs.List.{AllByRecursion}
 use Rattle.std.proofs.lemmas.Bool.{ltb-true, ltb-false}
 use Rattle.model.specs.Laws.{fits}
 use Rattle.model.specs.Settled.{round, rounds, settled_by}
@@ -21,30 +21,30 @@ pub record Runs {B : Type 0} (Good : B → Type 0) (Sub : B → B → Type 0) (r
 pub record Settled {B : Type 0} (Good : B → Type 0) (Sub : B → B → Type 0) (rs : List (B → B)) (b s : B) : Type 0 where
   pub good : Good s
   pub inside : Sub s b
-  pub still : All (λ r. r s ≡ s) rs
-  pub largest : (t : B) → Good t → Sub t b → All (λ r. r t ≡ t) rs → Sub t s
+  pub still : AllByRecursion (λ r. r s ≡ s) rs
+  pub largest : (t : B) → Good t → Sub t b → AllByRecursion (λ r. r t ≡ t) rs → Sub t s
 
 module _ {B : Type 0} (Good : B → Type 0) (Sub : B → B → Type 0) (size : B → ℕ) (ord : Ordered Good Sub size) where
-  pub round-good : (rs : List (B → B)) → All (Runs Good Sub) rs → (b : B) → Good b → Good (round rs b)
+  pub round-good : (rs : List (B → B)) → AllByRecursion (Runs Good Sub) rs → (b : B) → Good b → Good (round rs b)
   unfolding round
   round-good [] h b g = g
   round-good (r ∷ rs) h b g = round-good rs h.1 (r b) (h.0.good b g)
 
-  pub round-inside : (rs : List (B → B)) → All (Runs Good Sub) rs → (b : B) → Good b → Sub (round rs b) b
+  pub round-inside : (rs : List (B → B)) → AllByRecursion (Runs Good Sub) rs → (b : B) → Good b → Sub (round rs b) b
   unfolding round
   round-inside [] h b g = ord.itself b
   round-inside (r ∷ rs) h b g =
       ord.chain _ (r b) _ (round-inside rs h.1 (r b) (h.0.good b g)) (h.0.shrinks b g)
 
   -- a box that no run changes, and is inside b, is inside what a round makes of b
-  pub round_keeps : (rs : List (B → B)) → All (Runs Good Sub) rs → (t b : B) → Good t → Good b → Sub t b → All (λ r. r t ≡ t) rs → Sub t (round rs b)
+  pub round_keeps : (rs : List (B → B)) → AllByRecursion (Runs Good Sub) rs → (t b : B) → Good t → Good b → Sub t b → AllByRecursion (λ r. r t ≡ t) rs → Sub t (round rs b)
   unfolding round
   round_keeps [] h t b gt gb i fix = i
   round_keeps (r ∷ rs) h t b gt gb i fix =
       round_keeps rs h.1 t (r b) gt (h.0.good b gb) (subst (λ x. Sub x (r b)) fix.0 (h.0.mono t b gt gb i)) fix.1
 
   -- a round that changes nothing has no run that does
-  pub round-still : (rs : List (B → B)) → All (Runs Good Sub) rs → (b : B) → Good b → Sub b (round rs b) → All (λ r. r b ≡ b) rs
+  pub round-still : (rs : List (B → B)) → AllByRecursion (Runs Good Sub) rs → (b : B) → Good b → Sub b (round rs b) → AllByRecursion (λ r. r b ≡ b) rs
   unfolding round
   round-still [] h b g i = tt
   round-still (r ∷ rs) h b g i =
@@ -52,7 +52,7 @@ module _ {B : Type 0} (Good : B → Type 0) (Sub : B → B → Type 0) (size : B
       let e : r b ≡ b = ord.one (r b) b gr g (h.0.shrinks b g) (ord.chain _ (round rs (r b)) _ i (round-inside rs h.1 (r b) gr)) in
       (e, round-still rs h.1 b g (subst (λ x. Sub b (round rs x)) e i))
 
-  pub rounds-settle : (rs : List (B → B)) → All (Runs Good Sub) rs → (f : ℕ) (b : B) → Good b → size b ≤ f → Settled Good Sub rs b (rounds size rs f b)
+  pub rounds-settle : (rs : List (B → B)) → AllByRecursion (Runs Good Sub) rs → (f : ℕ) (b : B) → Good b → size b ≤ f → Settled Good Sub rs b (rounds size rs f b)
   unfolding rounds
   rounds-settle rs h zero b g fits =
       let inside = round-inside rs h b g in
@@ -90,7 +90,7 @@ module _ {B : Type 0} (Good : B → Type 0) (Sub : B → B → Type 0) (size : B
             largest = λ t gt i fix. i;
           }
 
-  pub settled_is : (rs : List (B → B)) → All (Runs Good Sub) rs → (b : B) → Good b → Settled Good Sub rs b (settled_by size rs b)
+  pub settled_is : (rs : List (B → B)) → AllByRecursion (Runs Good Sub) rs → (b : B) → Good b → Settled Good Sub rs b (settled_by size rs b)
   unfolding settled_by
   settled_is rs h b g = rounds-settle rs h (size b) b g (omega arith)
 

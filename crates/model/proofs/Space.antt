@@ -1,7 +1,7 @@
 -- The laws of the tight box, over any boxes, layouts and choices. Assumes nothing.
 -- what is asked of boxes, layouts and choices
 use Rattle.std.proofs.Common.{◌≡◌, Bool, true, false, List, sym, refl, ap, ◌∙◌}
-use Rattle.std.specs.List.{AllByRecursion as All}
+use Rattle.std.specs.List.{AllByRecursion}
 use Rattle.std.proofs.lemmas.Bool.{both_ways}
 use Rattle.model.specs.Calls.{Mem}
 use Rattle.model.specs.Tight.{keep}
@@ -13,8 +13,8 @@ pub record Space {B L C : Type 0} (choice : B → C → Bool) (uses : L → C �
   pub lay-in : (b : B) → Good b → (x : L) → Mem x (layouts b) → (c : C) → uses x c ≡ true → choice b c ≡ true
   pub lay-all : (b : B) → Good b → (x : L) → On x → ((c : C) → uses x c ≡ true → choice b c ≡ true) → Mem x (layouts b)
   pub lay-each : (b : B) → Good b → (c : C) → choice b c ≡ true → (x : L) × Mem x (layouts b) × (uses x c ≡ true)
-  pub hull-has : (xs : List L) → All On xs → (c : C) → choice (hull xs) c ≡ any (λ x. uses x c) xs
-  pub hull-good : (xs : List L) → All On xs → Good (hull xs)
+  pub hull-has : (xs : List L) → AllByRecursion On xs → (c : C) → choice (hull xs) c ≡ any (λ x. uses x c) xs
+  pub hull-good : (xs : List L) → AllByRecursion On xs → Good (hull xs)
   pub one : (a b : B) → Good a → Good b → ((c : C) → choice a c ≡ choice b c) → a ≡ b
 
 module _ {B L C : Type 0} (choice : B → C → Bool) (uses : L → C → Bool) (Good : B → Type 0) (On : L → Type 0)
@@ -34,7 +34,7 @@ module _ {B L C : Type 0} (choice : B → C → Bool) (uses : L → C → Bool) 
     abbrev tightly : B → B
     tightly b = hull (keep holds (layouts b))
 
-    supports-on : (b : B) → Good b → All On (keep holds (layouts b))
+    supports-on : (b : B) → Good b → AllByRecursion On (keep holds (layouts b))
     supports-on b g = all_keep On holds (layouts b) (λ x m. sp.lay-on b g x m)
 
     pub tight-good : (b : B) → Good b → Good (tightly b)

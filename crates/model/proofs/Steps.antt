@@ -1,7 +1,7 @@
 -- What entries, posts and settlings in any order come to, over any order of boxes. Assumes nothing.
 -- what changes a plan: an accepted entry, an accepted rule, a settling of the rules so far
 use Rattle.std.proofs.Common.{◌≡◌, ℕ, zero, suc, true, false, ltb, List, [], ◌∷◌, ◌++◌, map, subst}
-use Rattle.std.specs.List.{AllByRecursion as All}
+use Rattle.std.specs.List.{AllByRecursion}
 use Rattle.std.proofs.ByRecursion.{All-push}
 use Rattle.model.specs.Box.{size}
 use Rattle.model.specs.Calls.{Alike}
@@ -38,14 +38,14 @@ module _ {B E R : Type 0} (Good : B → Type 0) (Sub : B → B → Type 0) (size
     (narrow : E → B → B) (run : R → B → B)
     (narrows : (e : E) → Runs Good Sub (narrow e)) (runs : (r : R) → Runs Good Sub (run r))
     (firm : (e : E) (a b : B) → Good a → Good b → Sub a (narrow e b) → narrow e a ≡ a) where
-  all-run : (rs : List R) → All (Runs Good Sub) (map run rs)
+  all-run : (rs : List R) → AllByRecursion (Runs Good Sub) (map run rs)
   all-run rs = all-to-map (Runs Good Sub) run rs (all-every (λ r. Runs Good Sub (run r)) runs rs)
 
   abbrev Fixed : List R → B → Type 0
-  Fixed rs t = All (λ r. run r t ≡ t) rs
+  Fixed rs t = AllByRecursion (λ r. run r t ≡ t) rs
 
   abbrev Firm : List E → B → Type 0
-  Firm es t = All (λ e. narrow e t ≡ t) es
+  Firm es t = AllByRecursion (λ e. narrow e t ≡ t) es
 
   pub settle_is : (rs : List R) (b : B) → Good b → Settled Good Sub (map run rs) b (settled_by size (map run rs) b)
   settle_is rs b g = settled_is Good Sub size ord (map run rs) (all-run rs) b g
@@ -118,7 +118,7 @@ module _ {B E R : Type 0} (Good : B → Type 0) (Sub : B → B → Type 0) (size
       let h = settle_is rs (narrowed narrow es start) (narrowed-good es start g) in
       let move : (es fs : List E) (t : B) → Good t → Alike es fs → Sub t (narrowed narrow es start) → Sub t (narrowed narrow fs start) =
       λ es fs t k a i. let p = narrowed-parts es start t g k i in narrowed-from fs start t g k p.0 (all_alike (λ e. narrow e t ≡ t) es fs a p.1) in
-      let fix : (rs qs : List R) (t : B) → Alike rs qs → All (λ f. f t ≡ t) (map run rs) → All (λ f. f t ≡ t) (map run qs) =
+      let fix : (rs qs : List R) (t : B) → Alike rs qs → AllByRecursion (λ f. f t ≡ t) (map run rs) → AllByRecursion (λ f. f t ≡ t) (map run qs) =
       λ rs qs t a f. all-to-map (λ f. f t ≡ t) run qs (all_alike (λ r. run r t ≡ t) rs qs a (all_of_map (λ f. f t ≡ t) run rs f)) in
       settled-one Good Sub size ord (map run qs) (narrowed narrow fs start) _ _
       (record {
@@ -131,26 +131,26 @@ module _ {B E R : Type 0} (Good : B → Type 0) (Sub : B → B → Type 0) (size
 
 -- what a property that every step keeps comes to: a layout that keeps all entries and rules is never struck
 module _ {B E R : Type 0} (size : B → ℕ) (narrow : E → B → B) (run : R → B → B) (P : B → Type 0) where
-  round-holds : (rs : List (B → B)) → All (λ r. (b : B) → P b → P (r b)) rs → (b : B) → P b → P (round rs b)
+  round-holds : (rs : List (B → B)) → AllByRecursion (λ r. (b : B) → P b → P (r b)) rs → (b : B) → P b → P (round rs b)
   unfolding round
   round-holds [] h b p = p
   round-holds (r ∷ rs) h b p = round-holds rs h.1 (r b) (h.0 b p)
 
-  rounds-holds : (rs : List (B → B)) → All (λ r. (b : B) → P b → P (r b)) rs → (f : ℕ) (b : B) → P b → P (rounds size rs f b)
+  rounds-holds : (rs : List (B → B)) → AllByRecursion (λ r. (b : B) → P b → P (r b)) rs → (f : ℕ) (b : B) → P b → P (rounds size rs f b)
   unfolding rounds
   rounds-holds rs h zero b p = p
   rounds-holds rs h (suc f) b p =
       elim (ltb (size (round rs b)) (size b)) as (λ t. P (elim t [ true ↦ rounds size rs f (round rs b) | false ↦ b ]))
       [ true ↦ rounds-holds rs h f (round rs b) (round-holds rs h b p) | false ↦ p ]
 
-  pub settled-holds : (rs : List (B → B)) → All (λ r. (b : B) → P b → P (r b)) rs → (b : B) → P b → P (settled_by size rs b)
+  pub settled-holds : (rs : List (B → B)) → AllByRecursion (λ r. (b : B) → P b → P (r b)) rs → (b : B) → P b → P (settled_by size rs b)
   unfolding settled_by
   settled-holds rs h b p = rounds-holds rs h (size b) b p
 
   pub history-holds : (s : List (Step E R)) (rs : List R) (b : B) → P b
-      → All (λ e. (b : B) → P b → P (narrow e b)) (entries_of s)
-      → All (λ r. (b : B) → P b → P (run r b)) rs
-      → All (λ r. (b : B) → P b → P (run r b)) (posted_of s) → P (walked size narrow run s rs b)
+      → AllByRecursion (λ e. (b : B) → P b → P (narrow e b)) (entries_of s)
+      → AllByRecursion (λ r. (b : B) → P b → P (run r b)) rs
+      → AllByRecursion (λ r. (b : B) → P b → P (run r b)) (posted_of s) → P (walked size narrow run s rs b)
   history-holds [] rs b p he hr hp = p
   history-holds (entering e ∷ s) rs b p he hr hp = history-holds s rs (narrow e b) (he.0 b p) he.1 hr hp
   history-holds (posting r ∷ s) rs b p he hr hp = history-holds s (rs ++ (r ∷ [])) b p he (All-push (λ q. (b : B) → P b → P (run q b)) rs r hr hp.0) hp.1

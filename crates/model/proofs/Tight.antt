@@ -1,6 +1,6 @@
 -- The planner's boxes: their order, their tight boxes and their settled boxes. Assumes nothing.
 use Rattle.std.proofs.Common.{◌≡◌, ◌<◌, Bool, true, List, [], ◌∷◌, refl, inl, inr}
-use Rattle.std.specs.List.{AllByRecursion as All}
+use Rattle.std.specs.List.{AllByRecursion}
 use Rattle.std.proofs.lemmas.Bool.{both_ways}
 use Rattle.model.specs.Board.{Board}
 use Rattle.model.specs.Box.{Box, Choice, Inside, Kept, choice, dead, size, uses}
@@ -71,7 +71,7 @@ module _ (bd : Board) (some : 0 < bd.sensors) where
     mono = λ a b ka kb f. from (r a) (r b) (n.kept a ka) (n.kept b kb) (n.monotone a b ka kb (to a b ka kb f));
   }
 
-  pub all_runs : (rs : List (Box → Box)) → All (Narrows bd) rs → All (Runs (Kept bd) (Fewer bd some)) rs
+  pub all_runs : (rs : List (Box → Box)) → AllByRecursion (Narrows bd) rs → AllByRecursion (Runs (Kept bd) (Fewer bd some)) rs
   all_runs [] h = tt
   all_runs (r ∷ rs) h = (runs_of r h.0, all_runs rs h.1)
 

@@ -1,6 +1,6 @@
 -- What each call of a plan answers and does, and what a mix of calls comes to. Assumes nothing.
 use Rattle.std.specs.Prelude.{◌≡◌, ℕ, ◌^◌, ◌<◌, min, Bool, true, false, cond, ◌⊎◌, List, [], ◌∷◌, ◌++◌, map, length, ◌==◌, nat_le, nat_lt}
-use Rattle.std.specs.List.{AllByRecursion as All}
+use Rattle.std.specs.List.{AllByRecursion}
 use Rattle.model.specs.Capacity.{most_sensors, most_slots, most_sets, most_places}
 use Rattle.model.specs.Board.{Board}
 use Rattle.model.specs.Layout.{Layout, On}
@@ -96,8 +96,8 @@ pub record Alike {X : Type 0} (xs ys : List X) : Type 0 where
 module _ {R : Type 0} (fault : Board → R → ℕ) (holds : Board → R → Layout → Bool) (run : Board → R → Box → Box) where
   -- every entry and every rule that was accepted is kept by the layout
   pub record KeepsAll (bd : Board) (cs : List (Call R)) (s : State R) (x : Layout) : Type 0 where
-    pub entries : All (λ e. keeps e x ≡ true) (entered fault run cs s)
-    pub rules : All (λ r. holds bd r x ≡ true) (posted fault run cs s)
+    pub entries : AllByRecursion (λ e. keeps e x ≡ true) (entered fault run cs s)
+    pub rules : AllByRecursion (λ r. holds bd r x ≡ true) (posted fault run cs s)
 
   pub record Mixes (bd : Board) (start : Box) : Type 0 where
     -- after a last settle the box depends only on the accepted entries and rules, whatever their order and repeats, and whatever was refused

@@ -1,6 +1,6 @@
 -- The settled box: the largest box inside a given one that no run of a list changes. Assumes nothing.
 use Rattle.std.specs.Prelude.{◌≡◌, ℕ, zero, suc, ◌<◌, Bool, true, false, List, [], ◌∷◌, nat_lt}
-use Rattle.std.specs.List.{AllByRecursion as All}
+use Rattle.std.specs.List.{AllByRecursion}
 use Rattle.model.specs.Board.{Board}
 use Rattle.model.specs.Box.{Box, Kept, Inside, size}
 use Rattle.model.specs.Laws.{Narrows}
@@ -9,8 +9,8 @@ use Rattle.model.specs.Laws.{Narrows}
 pub record Largest (bd : Board) (runs : List (Box → Box)) (b s : Box) : Type 0 where
   pub kept : Kept bd s
   pub inside : Inside bd s b
-  pub still : All (λ r. r s ≡ s) runs
-  pub largest : (t : Box) → Kept bd t → Inside bd t b → All (λ r. r t ≡ t) runs → Inside bd t s
+  pub still : AllByRecursion (λ r. r s ≡ s) runs
+  pub largest : (t : Box) → Kept bd t → Inside bd t b → AllByRecursion (λ r. r t ≡ t) runs → Inside bd t s
 
 -- ---- it is there, by rounds under a falling size
 
@@ -39,7 +39,7 @@ pub record Progress (bd : Board) (moved : Bool) (a b : Box) : Type 0 where
 
 -- what is proved of settling, for runs that shrink and are monotone
 pub record Settling (bd : Board) : Type 0 where
-  pub made : (runs : List (Box → Box)) → All (Narrows bd) runs → (b : Box) → Kept bd b → Largest bd runs b (settled bd runs b)
+  pub made : (runs : List (Box → Box)) → AllByRecursion (Narrows bd) runs → (b : Box) → Kept bd b → Largest bd runs b (settled bd runs b)
   pub one : (runs : List (Box → Box)) (b s t : Box) → Largest bd runs b s → Largest bd runs b t → s ≡ t
 
 abbrev pub SettlingStands : Type 0

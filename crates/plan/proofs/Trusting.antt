@@ -1,7 +1,7 @@
 -- What a settled plan may be trusted for follows from the theorem on mixes of calls. Assumes nothing.
 -- every layout of the board lies in the box of a new plan
 use Rattle.std.proofs.Common.{◌≡◌, ℕ, ◌-◌, ◌^◌, ◌<◌, Bool, true, List, [], ◌∷◌, map, sym, refl, ap, ◌∙◌, subst}
-use Rattle.std.specs.List.{AllByRecursion as All}
+use Rattle.std.specs.List.{AllByRecursion}
 use Rattle.masks.specs.Masks.{has, within}
 use Rattle.masks.proofs.Masks.{has-full, within-from}
 use Rattle.model.specs.Board.{Board, room}
@@ -69,17 +69,17 @@ module _ {R : Type 0} {fault : Board → R → ℕ} {holds : Board → R → Lay
   rules-of : (h : List (Call R)) → Leads fault holds run h s → s.rules ≡ posted fault run h start
   rules-of h l = ap (λ z. z.rules) (sym l) ∙ rules_are fault run h start
 
-  kept-start : Kept s.board s.box → All (λ r. asked fault run s.board r t ≡ t) s.rules
+  kept-start : Kept s.board s.box → AllByRecursion (λ r. asked fault run s.board r t ≡ t) s.rules
   kept-start k =
       let w = (settling s.board some).made (map (asked fault run s.board) s.rules) (all_asked lawful s.board some s.rules) s.box k in
-      subst (λ z. All (λ r. asked fault run s.board r z ≡ z) s.rules) (sym e) (all_of_map (λ f. f _ ≡ _) (asked fault run s.board) s.rules w.still)
+      subst (λ z. AllByRecursion (λ r. asked fault run s.board r z ≡ z) s.rules) (sym e) (all_of_map (λ f. f _ ≡ _) (asked fault run s.board) s.rules w.still)
 
   -- each fits, and its run leaves the settled box
   pub at_rest : (h : List (Call R)) → Leads fault holds run h s → (r : R) → Mem r (posted fault run h start) → (fits fault s.board r ≡ true) × (run s.board r t ≡ t)
   at_rest h l r m =
       let k : Kept s.board s.box = subst (λ z. Kept s.board z.box) l (mix-kept lawful s.board some (full s.board) (full-kept s.board slots) s.places h) in
       let f = all-mem (λ r. fits fault s.board r ≡ true) (posted fault run h start) (posted-fit fault run h start) r m in
-      let a = all-mem (λ r. asked fault run s.board r t ≡ t) (posted fault run h start) (subst (All (λ r. asked fault run s.board r t ≡ t)) (rules-of h l) (kept-start k)) r m in
+      let a = all-mem (λ r. asked fault run s.board r t ≡ t) (posted fault run h start) (subst (AllByRecursion (λ r. asked fault run s.board r t ≡ t)) (rules-of h l) (kept-start k)) r m in
       (f, sym (asked-fits fault run s.board r t f) ∙ a)
 
 -- the places are the same after any mix of calls

@@ -1,6 +1,6 @@
 -- What a box at rest under a Roots rule shows of each sensor. Assumes nothing.
 use Rattle.std.proofs.Common.{◌≡◌, ℕ, ◌^◌, ◌<◌, Bool, true, false, cond, [], ◌∷◌, sym, ap, ◌∙◌, subst, inl, inr}
-use Rattle.std.specs.List.{AllByRecursion as All}
+use Rattle.std.specs.List.{AllByRecursion}
 use Rattle.std.proofs.lemmas.Bool.{both_ways, not-true, eqb-true, lt-ltb, and_parts, cases_Bool, and_from, not_from_false}
 use Rattle.masks.specs.Masks.{has}
 use Rattle.masks.proofs.Masks.{has-below, within_has}
@@ -34,14 +34,14 @@ module _ (bd : Board) (some : 0 < bd.sensors) (r : Roots) (b : Box) (at : Restin
   on = rooted bd r.g r.s r.t at.fit
 
   -- no implication changes the box, so each supports each choice
-  by_all : All (λ q. (c : Choice) → choice bd b c ≡ true → Supported bd (implied bd q) b c) (parts bd r)
+  by_all : AllByRecursion (λ q. (c : Choice) → choice bd b c ≡ true → Supported bd (implied bd q) b c) (parts bd r)
   by_all = mem-all _ (parts bd r) (λ q m c e.
       (tightness bd some (implied bd q)).used b (inr at.live) c
       (ap (λ x. choice bd x c) (each-still bd some (implied bd) (implication_run bd) (parts bd r) (each_laws bd some (parts bd r)) b (inr at.live) at.still q m) ∙ e))
 
   by-own : (i : ℕ) → i < bd.sensors → (v : Bool) → has g i ≡ v
-      → All (λ q. (c : Choice) → choice bd b c ≡ true → Supported bd (implied bd q) b c) (cond v (Implies i s t ∷ ImpliedBy i s t ∷ []) (Excluded i s ∷ []))
-  by-own i h v e = subst (λ v. All (λ q. (c : Choice) → choice bd b c ≡ true → Supported bd (implied bd q) b c) (cond v (Implies i s t ∷ ImpliedBy i s t ∷ []) (Excluded i s ∷ []))) e
+      → AllByRecursion (λ q. (c : Choice) → choice bd b c ≡ true → Supported bd (implied bd q) b c) (cond v (Implies i s t ∷ ImpliedBy i s t ∷ []) (Excluded i s ∷ []))
+  by-own i h v e = subst (λ v. AllByRecursion (λ q. (c : Choice) → choice bd b c ≡ true → Supported bd (implied bd q) b c) (cond v (Implies i s t ∷ ImpliedBy i s t ∷ []) (Excluded i s ∷ []))) e
       (each_at _ g s t bd.sensors by_all i h)
 
   open-choice : (c : Choice) → offers bd b c ≡ true → choice bd b c ≡ true

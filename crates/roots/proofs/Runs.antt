@@ -2,7 +2,7 @@
 use Rattle.std.proofs.Common.{◌≡◌, ℕ, ◌^◌, ◌<◌, Bool, true, false, cond, not, eqb, List, [], ◌∷◌, sym, refl, ap, ◌∙◌, subst, inl, inr}
 use lib.Bits.{bit_and}
 use lib.Count.{ones}
-use Rattle.std.specs.List.{AllByRecursion as All}
+use Rattle.std.specs.List.{AllByRecursion}
 use Rattle.std.proofs.lemmas.Bool.{both_ways, not-true, eqb-true, eqb-false, lt-ltb, and_parts, cases_Bool, and_from, or_right, not_from_false}
 use Rattle.masks.specs.Masks.{has, within, without}
 use Rattle.masks.proofs.Counts.{first, first-has, one_has}
@@ -70,7 +70,7 @@ module _ (bd : Board) (some : 0 < bd.sensors) (x : Box) (k : Kept bd x) where
 
     module _ (ok : ℕ → ℕ → ℕ → Bool) where
       abbrev Sound : List Entry → Type 0
-      Sound es = (y : Layout) → On bd y → In bd y x → ok (slot_of y i) (set_of y s) (set_of y t) ≡ true → All (λ e. keeps e y ≡ true) es
+      Sound es = (y : Layout) → On bd y → In bd y x → ok (slot_of y i) (set_of y s) (set_of y t) ≡ true → AllByRecursion (λ e. keeps e y ≡ true) es
 
       by : (es : List Entry) → Sound es → (Live bd (narrowed (narrow bd) es x) → Linked ok (narrowed (narrow bd) es x) i s t)
           → narrowed (narrow bd) es x ≡ tight bd (λ y. ok (slot_of y i) (set_of y s) (set_of y t)) x

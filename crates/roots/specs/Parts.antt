@@ -2,7 +2,7 @@
 use Rattle.std.specs.Prelude.{◌≡◌, ℕ, zero, suc, ◌+◌, ◌*◌, ◌^◌, ◌<◌, ◌≤◌, Bool, true, false, cond, not, ◌&&◌, ◌||◌, List, [], ◌∷◌, ◌++◌, map, length, take, nat_le, slice_set, refl}
 use Rattle.std.proofs.Common.{sym, ◌∙◌, subst, append_assoc, inl, inr, add-one, arith, length-set}
 use Rattle.std.proofs.Math.Path.{ap}
-use Rattle.std.specs.List.{AllByRecursion as All}
+use Rattle.std.specs.List.{AllByRecursion}
 use Rattle.std.proofs.lemmas.Bool.{not-false, leb-false, eq-eqb, cases_eq}
 use Rattle.std.proofs.lemmas.List.{take_more_set}
 use Rattle.std.proofs.ByRecursion.{All-append}
@@ -23,22 +23,22 @@ use Rattle.roots.specs.declared.implication.Implication.{Implication}
 use Rattle.roots.specs.declared.implication.Implication.TheVariants.{Excluded, Implies, ImpliedBy}
 use Rattle.roots.specs.declared.roots.Roots.{Roots}
 
-all_split : {X : Type 0} (P : X → Type 0) (xs ys : List X) → All P (xs ++ ys) → All P xs × All P ys
+all_split : {X : Type 0} (P : X → Type 0) (xs ys : List X) → AllByRecursion P (xs ++ ys) → AllByRecursion P xs × AllByRecursion P ys
 all_split P [] ys h = (tt, h)
 all_split P (x ∷ xs) ys h = let r = all_split P xs ys h.1 in ((h.0, r.0), r.1)
 
-pub each_from : (P : Implication → Type 0) (g s t n : ℕ) → ((i : ℕ) → i < n → All P (own g s t i)) → All P (implications g s t n)
+pub each_from : (P : Implication → Type 0) (g s t n : ℕ) → ((i : ℕ) → i < n → AllByRecursion P (own g s t i)) → AllByRecursion P (implications g s t n)
 unfolding implications
 each_from P g s t zero f = tt
 each_from P g s t (suc n) f = All-append P (implications g s t n) (own g s t n) (each_from P g s t n (λ i h. f i (omega arith))) (f n (omega arith))
 
-pub each_at : (P : Implication → Type 0) (g s t n : ℕ) → All P (implications g s t n) → (i : ℕ) → i < n → All P (own g s t i)
+pub each_at : (P : Implication → Type 0) (g s t n : ℕ) → AllByRecursion P (implications g s t n) → (i : ℕ) → i < n → AllByRecursion P (own g s t i)
 unfolding implications
 each_at P g s t zero a i h = absurd (omega arith)
 each_at P g s t (suc n) a i h =
     let p = all_split P (implications g s t n) (own g s t n) a in
     elim (cases_eq i n) [
-      | inl e ↦ subst (λ k. All P (own g s t k)) (sym e) p.1
+      | inl e ↦ subst (λ k. AllByRecursion P (own g s t k)) (sym e) p.1
       | inr e ↦ each_at P g s t n p.0 i (omega arith)
     ]
 
@@ -77,14 +77,14 @@ module _ (bd : Board) (g s t : ℕ) (x : Layout) where
   abbrev within_t : ℕ → Bool
   within_t i = has (set_of x t) (slot_of x i)
 
-  said : (i : ℕ) → agree (within_s i) (has g i && within_t i) ≡ true → All Said (own g s t i)
-  said i = elim (has g i) as (λ b. agree (within_s i) (b && within_t i) ≡ true → All Said (cond b (Implies i s t ∷ ImpliedBy i s t ∷ []) (Excluded i s ∷ []))) [
+  said : (i : ℕ) → agree (within_s i) (has g i && within_t i) ≡ true → AllByRecursion Said (own g s t i)
+  said i = elim (has g i) as (λ b. agree (within_s i) (b && within_t i) ≡ true → AllByRecursion Said (cond b (Implies i s t ∷ ImpliedBy i s t ∷ []) (Excluded i s ∷ []))) [
     | true ↦ λ e. (agree_there (within_s i) (within_t i) e, (agree_back (within_s i) (within_t i) e, tt))
     | false ↦ λ e. (agree_none (within_s i) e, tt)
   ]
 
-  unsaid : (i : ℕ) → All Said (own g s t i) → agree (within_s i) (has g i && within_t i) ≡ true
-  unsaid i = elim (has g i) as (λ b. All Said (cond b (Implies i s t ∷ ImpliedBy i s t ∷ []) (Excluded i s ∷ [])) → agree (within_s i) (b && within_t i) ≡ true) [
+  unsaid : (i : ℕ) → AllByRecursion Said (own g s t i) → agree (within_s i) (has g i && within_t i) ≡ true
+  unsaid i = elim (has g i) as (λ b. AllByRecursion Said (cond b (Implies i s t ∷ ImpliedBy i s t ∷ []) (Excluded i s ∷ [])) → agree (within_s i) (b && within_t i) ≡ true) [
     | true ↦ λ e. both_agree (within_s i) (within_t i) e.0 e.1.0
     | false ↦ λ e. none_agree (within_s i) e.0
   ]
@@ -121,16 +121,16 @@ rooted bd g s t e =
 pub rooted_links : (bd : Board) (g s t : ℕ) → Rooted bd g s t → (i : ℕ) → i < bd.sensors → Links bd i s t
 rooted_links bd g s t o i h = record { sensor = h; first = o.first; second = o.second; sensors = o.sensors; slots = o.slots }
 
-pub all_fit : (bd : Board) (g s t : ℕ) → Rooted bd g s t → All (λ q. fits implication_fault bd q ≡ true) (implications g s t bd.sensors)
+pub all_fit : (bd : Board) (g s t : ℕ) → Rooted bd g s t → AllByRecursion (λ q. fits implication_fault bd q ≡ true) (implications g s t bd.sensors)
 all_fit bd g s t o = each_from _ g s t bd.sensors (λ i h.
-    elim (has g i) as (λ b. All (λ q. fits implication_fault bd q ≡ true) (cond b (Implies i s t ∷ ImpliedBy i s t ∷ []) (Excluded i s ∷ []))) [
+    elim (has g i) as (λ b. AllByRecursion (λ q. fits implication_fault bd q ≡ true) (cond b (Implies i s t ∷ ImpliedBy i s t ∷ []) (Excluded i s ∷ []))) [
       | true ↦ let e = eq-eqb _ 0 (links_from bd i s t (rooted_links bd g s t o i h)) in (e, (e, tt))
       | false ↦ (eq-eqb _ 0 (excludes_from bd i s (record { sensor = h; first = o.first; sensors = o.sensors })), tt)
     ])
 
 -- ---- the laws
 
-pub each_laws : (bd : Board) → 0 < bd.sensors → (qs : List Implication) → All (λ q. Laws bd (implied bd q) (implication_run bd q)) qs
+pub each_laws : (bd : Board) → 0 < bd.sensors → (qs : List Implication) → AllByRecursion (λ q. Laws bd (implied bd q) (implication_run bd q)) qs
 each_laws bd some qs = all-every (λ q. Laws bd (implied bd q) (implication_run bd q)) (λ q. (tightness bd some (implied bd q)).laws) qs
 
 pub roots_lawful : Lawful roots_fault roots_holds roots_run

@@ -1,6 +1,6 @@
 -- Roots G S T: S is exactly the set of the sensors of G whose slot is in T. Assumes nothing.
 use Rattle.std.specs.Prelude.{◌≡◌, ℕ, zero, suc, ◌^◌, Bool, true, cond, not, ◌&&◌, List, [], ◌∷◌, ◌++◌, map, nat_le}
-use Rattle.std.specs.List.{AllByRecursion as All}
+use Rattle.std.specs.List.{AllByRecursion}
 use Rattle.masks.specs.Masks.{has}
 use Rattle.model.specs.Board.{Board}
 use Rattle.model.specs.Layout.{Layout, slot_of, set_of}
@@ -46,8 +46,8 @@ roots_run bd r b = settled bd (map (implication_run bd) (parts bd r)) b
 
 -- a Roots rule holds exactly where all its implications do
 pub record Split (bd : Board) (r : Roots) (x : Layout) : Type 0 where
-  pub there : roots_holds bd r x ≡ true → All (λ q. implied bd q x ≡ true) (parts bd r)
-  pub back : All (λ q. implied bd q x ≡ true) (parts bd r) → roots_holds bd r x ≡ true
+  pub there : roots_holds bd r x ≡ true → AllByRecursion (λ q. implied bd q x ≡ true) (parts bd r)
+  pub back : AllByRecursion (λ q. implied bd q x ≡ true) (parts bd r) → roots_holds bd r x ≡ true
 
 abbrev pub RootsSplits : Type 0
 RootsSplits = (bd : Board) (r : Roots) (x : Layout) → Split bd r x

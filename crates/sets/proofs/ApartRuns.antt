@@ -1,7 +1,7 @@
 -- The run of Apart is its tight box. Assumes nothing.
 use Rattle.std.proofs.Common.{◌≡◌, ℕ, ◌<◌, Bool, true, eqb, List, sym, ap, ◌∙◌, subst, ap₂, inl, inr}
 use lib.Bits.{bit_and}
-use Rattle.std.specs.List.{AllByRecursion as All}
+use Rattle.std.specs.List.{AllByRecursion}
 use Rattle.std.proofs.lemmas.Bool.{lt-ltb, cases_eq}
 use Rattle.masks.specs.Masks.{within, without}
 use Rattle.masks.proofs.Subsets.{apart-less, apart-swap, within-self, without-apart}
@@ -30,10 +30,10 @@ module _ (bd : Board) (some : 0 < bd.sensors) (a b : ℕ) (on : Pair bd a b) (x 
   abbrev ok : Layout → Bool
   ok y = eqb (bit_and (set_of y a) (set_of y b)) 0
 
-  placed-all : All (λ e. placed bd e ≡ true) es
+  placed-all : AllByRecursion (λ e. placed bd e ≡ true) es
   placed-all = (lt-ltb a bd.sets on.first, (lt-ltb b bd.sets on.second, tt))
 
-  sound : (y : Layout) → On bd y → In bd y x → ok y ≡ true → All (λ e. keeps e y ≡ true) es
+  sound : (y : Layout) → On bd y → In bd y x → ok y ≡ true → AllByRecursion (λ e. keeps e y ≡ true) es
   unfolding keeps
   sound y o i e = (
     apart-less (set_of y a) (set_of y b) (lo x b) e (i.over b on.second),

@@ -2,7 +2,7 @@
 use Rattle.std.proofs.Common.{◌≡◌, ℕ, ◌<◌, Bool, true, false, not, ◌&&◌, List, sym, refl, ap, ◌∙◌, subst, ap₂}
 use mathlib.Core.Bool.{false≢true}
 use lib.Bits.{bit_or}
-use Rattle.std.specs.List.{AllByRecursion as All}
+use Rattle.std.specs.List.{AllByRecursion}
 use Rattle.std.proofs.lemmas.Bool.{lt-ltb}
 use Rattle.masks.specs.Masks.{has, within, without}
 use Rattle.masks.proofs.Masks.{has-without, within_has}
@@ -29,10 +29,10 @@ module _ (bd : Board) (some : 0 < bd.sensors) (a b : ℕ) (on : Pair bd a b) (x 
   abbrev ok : Layout → Bool
   ok y = within (set_of y a) (set_of y b)
 
-  placed-all : All (λ e. placed bd e ≡ true) es
+  placed-all : AllByRecursion (λ e. placed bd e ≡ true) es
   placed-all = (lt-ltb a bd.sets on.first, (lt-ltb b bd.sets on.second, tt))
 
-  sound : (y : Layout) → On bd y → In bd y x → ok y ≡ true → All (λ e. keeps e y ≡ true) es
+  sound : (y : Layout) → On bd y → In bd y x → ok y ≡ true → AllByRecursion (λ e. keeps e y ≡ true) es
   unfolding keeps
   sound y o i e = (
     apart_from (set_of y a) _ (λ v h. gone (has (hi x a) v) (has (hi x b) v) (has-without (hi x a) (hi x b) v) (within_has (set_of y b) (hi x b) (i.under b on.second) v (within_has (set_of y a) (set_of y b) e v h))),

@@ -1,7 +1,7 @@
 -- The loops of settling. Assumes nothing.
 use Rattle.std.proofs.Common.{◌≡◌, ℕ, ◌+◌, ◌<◌, ◌≤◌, Bool, true, false, not, ◌||◌, List, [], ◌∷◌, ◌++◌, map, length, get_or, take, sym, refl, ap, ◌∙◌, subst, ap₂, inl, take_all}
 use mathlib.Core.List.{map-append}
-use Rattle.std.specs.List.{AllByRecursion as All}
+use Rattle.std.specs.List.{AllByRecursion}
 use Rattle.std.proofs.lemmas.Bool.{not-true, or_right}
 use Rattle.std.proofs.lemmas.List.{take_more}
 use Rattle.model.specs.Board.{Board}
@@ -84,16 +84,16 @@ module _ {R : Type 0} {fault : Board → R → ℕ} {run : Board → R → Box �
 pub record Going (bd : Board) (runs : List (Box → Box)) (b₀ b : Box) : Type 0 where
   pub kept : Kept bd b
   pub inside : Inside bd b b₀
-  pub above : (t : Box) → Kept bd t → Inside bd t b₀ → All (λ r. r t ≡ t) runs → Inside bd t b
+  pub above : (t : Box) → Kept bd t → Inside bd t b₀ → AllByRecursion (λ r. r t ≡ t) runs → Inside bd t b
 
 module _ {R : Type 0} {fault : Board → R → ℕ} {holds : Board → R → Layout → Bool} {run : Board → R → Box → Box} (lawful : Lawful fault holds run) (rs : List R) (a : Domains) where
   abbrev table : List (Box → Box)
   table = map (asked fault run (board a)) rs
 
-  narrows : All (Narrows (board a)) table
+  narrows : AllByRecursion (Narrows (board a)) table
   narrows = all_asked lawful (board a) (some a) rs
 
-  runs : All (Runs (Kept (board a)) (Fewer (board a) (some a))) table
+  runs : AllByRecursion (Runs (Kept (board a)) (Fewer (board a) (some a))) table
   runs = all_runs (board a) (some a) table narrows
 
   abbrev order : Ordered (Kept (board a)) (Fewer (board a) (some a)) (size (board a))

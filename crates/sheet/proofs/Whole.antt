@@ -1,6 +1,6 @@
 -- Whole files: reading and writing undo each other.
 use Rattle.std.proofs.Common.{◌≡◌, ℕ, zero, suc, ◌+◌, ◌<◌, ◌≤◌, Bool, true, false, cond, not, eqb, leb, List, [], ◌∷◌, ◌++◌, length, get_or, drop, Some, None, Ok, Err, Option, Result, sym, refl, ap, ◌∙◌, subst, inl, inr, arith, length-append, length-drop}
-use Rattle.std.specs.List.{flat_map, AllByRecursion as All}
+use Rattle.std.specs.List.{flat_map, AllByRecursion}
 use Rattle.std.proofs.lemmas.List.{flat_map_more, drop_more, drop-drop, drop_at, nil_from_length}
 use Rattle.std.proofs.ByRecursion.{All-drop}
 use Rattle.std.proofs.lemmas.Bool.{cases_eq, eq-eqb, ne_eqb, le-leb, lt-leb, cond-true, cond-false}
@@ -134,13 +134,13 @@ before-ok r (Err f) rs h = ([], cc, cc)
 
 -- what is known of the records from a place on
 abbrev Order : Bool → List Rec → Type 0
-Order true rs = All (λ x. headed x ≡ false) rs
+Order true rs = AllByRecursion (λ x. headed x ≡ false) rs
 Order false [] = ⊥
-Order false (r ∷ rs) = (headed r ≡ true) × All (λ x. headed x ≡ false) rs
+Order false (r ∷ rs) = (headed r ≡ true) × AllByRecursion (λ x. headed x ≡ false) rs
 
 record From (file : List ℕ) (at : ℕ) (begun : Bool) (rs : List Rec) : Type 0 where
   pub order : Order begun rs
-  pub fair : All Fair rs
+  pub fair : AllByRecursion Fair rs
   pub bytes : flat_map encode rs ≡ drop at file
 
 order-more : (begun : Bool) (r : Rec) (rs : List Rec) → headed r ≡ not begun → Order true rs → Order begun (r ∷ rs)
@@ -184,7 +184,7 @@ first_byte file h =
     let v : get_or file 0 0 ≡ version = grind (arith, nat_tests) in
     ap (λ x. x ∷ drop 1 file) (sym v) ∙ sym (drop_more file 0 0 l)
 
-sheet-of : (rs : List Rec) → Order false rs → All Fair rs → Sheet rs
+sheet-of : (rs : List Rec) → Order false rs → AllByRecursion Fair rs → Sheet rs
 sheet-of [] o f = o
 sheet-of (r ∷ rs) o f = (o.0, o.1, f)
 
@@ -209,7 +209,7 @@ after_first : (file : List ℕ) (at : ℕ) (r : Rec) (xs : List ℕ) → drop at
 after_first file at r xs e =
     (sym (drop-drop (length (encode r)) at file) ∙ ap (drop (length (encode r))) e ∙ drop_at (encode r) xs (length (encode r)) refl, omega (arith, ap length e, length-append (encode r) xs))
 
-read_back : (rs : List Rec) (n : ℕ) (file : List ℕ) (at : ℕ) → drop at file ≡ flat_map encode rs → All (λ x. headed x ≡ false) rs → All Fair rs → length (drop at file) < n → read_from n file at true ≡ Ok rs
+read_back : (rs : List Rec) (n : ℕ) (file : List ℕ) (at : ℕ) → drop at file ≡ flat_map encode rs → AllByRecursion (λ x. headed x ≡ false) rs → AllByRecursion Fair rs → length (drop at file) < n → read_from n file at true ≡ Ok rs
 unfolding read_from
 read_back rs zero file at e u f l = absurd (omega arith)
 read_back [] (suc n) file at e u f l = ap (λ xs. follow (turn true xs) at (λ next. read_from n file next true)) e

@@ -1,6 +1,6 @@
 -- Whole files: what a file reads as, what a list of records is written as, and that the two undo each other.
 use Rattle.std.specs.Prelude.{◌≡◌, ℕ, zero, suc, ◌+◌, ◌<◌, ◌≤◌, Bool, true, false, cond, List, [], ◌∷◌, ◌++◌, length, take, drop, Some, None, Ok, Err, Option, Result}
-use Rattle.std.specs.List.{flat_map, AllByRecursion as All}
+use Rattle.std.specs.List.{flat_map, AllByRecursion}
 use Rattle.sheet.specs.declared.reader.Reader.{Reader}
 use Rattle.sheet.specs.declared.writer.Writer.{Writer}
 use Rattle.sheet.specs.Layout.{Rec, version, longest, Bytes, Held, flaw_of, headed, encode, decode}
@@ -67,7 +67,7 @@ Fair r = Held r × (flaw_of r ≡ None)
 -- records that begin with their only head, each of which the writer takes
 abbrev pub Sheet : List Rec → Type 0
 Sheet [] = ⊥
-Sheet (r ∷ rs) = (headed r ≡ true) × All (λ x. headed x ≡ false) rs × All Fair (r ∷ rs)
+Sheet (r ∷ rs) = (headed r ≡ true) × AllByRecursion (λ x. headed x ≡ false) rs × AllByRecursion Fair (r ∷ rs)
 
 -- reading and writing undo each other
 pub record Undone : Type 0 where

@@ -1,6 +1,6 @@
 -- How a sheet file is laid out: numbers, records, and the bytes of a record. Assumes nothing.
 use Rattle.std.specs.Prelude.{ℕ, zero, suc, ◌+◌, ◌*◌, ◌/◌, ◌%◌, ◌^◌, ◌<◌, Bool, true, false, cond, List, [], ◌∷◌, ◌++◌, length, get_or, take, drop, Some, None, Ok, Err, Option, Result, ◌==◌, nat_le, nat_lt, slice_index, slice_index_or}
-use Rattle.std.specs.List.{AllByRecursion as All}
+use Rattle.std.specs.List.{AllByRecursion}
 
 -- the version byte
 unfoldable pub version : ℕ
@@ -30,7 +30,7 @@ digits (suc n) x = (x / 256 ^ n % 256) ∷ digits n x
 
 -- these are bytes
 abbrev pub Bytes : List ℕ → Type 0
-Bytes bs = All (λ b. b < 256) bs
+Bytes bs = AllByRecursion (λ b. b < 256) bs
 
 -- a record, as numbers and lists of bytes
 pub data Rec : Type 0 where
