@@ -26,8 +26,8 @@ int main(void) {
     if (memcmp(less, blank, sizeof less) != 0) return fails("an output that is too short was written");
 
     /* Settled an even number of times, the masks join to nothing. */
-    uint64_t once = slotplan_jobs(file, length, 1);
-    if (slotplan_jobs(file, length, 3) != once || slotplan_jobs(file, length, 2) != 0) return fails("the same sheet settles in another box");
+    uint64_t once = slotplan_runs(file, length, 1);
+    if (slotplan_runs(file, length, 3) != once || slotplan_runs(file, length, 2) != 0) return fails("the same sheet settles in another box");
 
     return fwrite(out, 1, end, stdout) == end ? 0 : fails("standard output is closed");
 }

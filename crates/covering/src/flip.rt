@@ -12,10 +12,9 @@ pub fn flip(pairs: &mut Pairs, from: &[Note; 64], free: Note, w: Note)
     requires unclaimed { has pairs.old.claimed w ≡ false }
     requires held { Matching pairs.old.takers pairs.old.sensors pairs.old.claimed pairs.old.notes pairs.old.owner }
     requires led { Led pairs.old.takers pairs.old.owner pairs.old.sensors w from.now free }
-    requires busy { Busy pairs.old.sensors pairs.old.idle pairs.old.owner }
     ensures same { (pairs.new.takers ≡ pairs.old.takers) × (pairs.new.sensors ≡ pairs.old.sensors) }
     ensures more { pairs.new.claimed ≡ bit_or pairs.old.claimed (2 ^ w) }
-    ensures busy { Busy pairs.new.sensors pairs.new.idle pairs.new.owner }
+    ensures busy { Busy pairs.old.sensors pairs.old.idle pairs.old.owner → Busy pairs.new.sensors pairs.new.idle pairs.new.owner }
     ensures held { Matching pairs.new.takers pairs.new.sensors pairs.new.claimed pairs.new.notes pairs.new.owner }
 {
     let mut i = free;

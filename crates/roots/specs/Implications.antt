@@ -60,13 +60,13 @@ confined sole i left = limit i left ∷ cond (count_ones left == 1) (sole left �
 abbrev pub implies_entries : ℕ → ℕ → ℕ → Box → List Entry
 implies_entries i s t x =
     let left = bit_and (cand x i) (hi x t) in
-    cond (has (lo x s) i) (confined (placed true t) i left) (cond (left == 0) (bar s (2 ^ i) ∷ []) [])
+    cond (has (lo x s) i) (confined (claim t) i left) (cond (left == 0) (bar s (2 ^ i) ∷ []) [])
 
 -- the sensor is surely not in s: its slot is not in t; all its candidates are surely in t: it is in s
 abbrev pub implied_by_entries : ℕ → ℕ → ℕ → Box → List Entry
 implied_by_entries i s t x =
     let left = without (cand x i) (lo x t) in
-    cond (has (hi x s) i) (cond (left == 0) (claim s (2 ^ i) ∷ []) []) (confined (placed false t) i left)
+    cond (has (hi x s) i) (cond (left == 0) (claim s (2 ^ i) ∷ []) []) (confined (bar t) i left)
 
 abbrev pub entries : Implication → Box → List Entry
 entries (Excluded i s) x = bar s (2 ^ i) ∷ []

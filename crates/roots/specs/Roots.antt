@@ -28,14 +28,14 @@ agree p q = cond p q (not q)
 unfoldable pub roots_holds : Board → Roots → Layout → Bool
 roots_holds bd r x = every (λ i. agree (has (set_of x r.s) i) (has r.g i && has (set_of x r.t) (slot_of x i))) bd.sensors
 
--- of one sensor: one of G is in S just where its slot is in T, any other is not in S
-abbrev pub own : ℕ → ℕ → ℕ → ℕ → List Implication
-own g s t i = cond (has g i) (Implies i s t ∷ ImpliedBy i s t ∷ []) (Excluded i s ∷ [])
-
--- those of the sensors below n
+-- for each sensor below n: one of G is in S just where its slot is in T, any other is not in S
 unfoldable pub implications : ℕ → ℕ → ℕ → ℕ → List Implication
 implications g s t zero = []
-implications g s t (suc i) = implications g s t i ++ own g s t i
+implications g s t (suc i) = implications g s t i ++ cond (has g i) (Implies i s t ∷ ImpliedBy i s t ∷ []) (Excluded i s ∷ [])
+
+-- those of one sensor
+abbrev pub own : ℕ → ℕ → ℕ → ℕ → List Implication
+own g s t i = cond (has g i) (Implies i s t ∷ ImpliedBy i s t ∷ []) (Excluded i s ∷ [])
 
 abbrev pub parts : Board → Roots → List Implication
 parts bd r = implications r.g r.s r.t bd.sensors

@@ -34,7 +34,6 @@ flip-requires c =
       low = n.low;
       unclaimed = (h.2.rest c.in-Some.w n.member).1;
       held = h.2.matching;
-      busy = h.3;
       led = subst (λ (x : ℕ). Led c.loop-w.pairs.takers c.loop-w.pairs.owner x c.in-Some.w c.search.new.from c.in-Ok.free) (sym h.1) c.in-Ok.ensures;
     }
 
@@ -48,7 +47,7 @@ loop-w-preserved c =
     let h = c.loop-w.invariant in
     let f = c.flip.ensures in
     let m = simp f.more at f.held in
-    (f.same.0 ∙ h.0, f.same.1 ∙ h.1, simp (c.in-Some.ensures.others, f.more) (under_more c.in-Some.w c.in-Some.ensures.member h.2 m), f.busy)
+    (f.same.0 ∙ h.0, f.same.1 ∙ h.1, simp (c.in-Some.ensures.others, f.more) (under_more c.in-Some.w c.in-Some.ensures.member h.2 m), f.busy h.3)
 
 pub returns-in-Err : goal.returns-in-Err
 returns-in-Err c =

@@ -39,7 +39,7 @@ returns c =
     elim c.loop-step-test.branch [
       | else-loop-step-test t ↦ absurd (let l = h.3.left in let e = t.loop-step-test.false in omega arith)
       | then-loop-step-test+then-u-w t ↦ simp (with-low _ c.args.w c.requires.low c.with-pairs.ensures.any, drop-low _ c.args.free first c.drop_one-pairs.ensures.any, t.pairs-is, h.0, h.1, h.2, h.4)
-          (record { same = (refl, refl); more = refl; busy = placed-busy c.args.pairs.now.sensors c.args.pairs.now.idle c.args.free c.args.pairs.now.owner _ c.requires.busy (placed-last h.5 low (flipping-from (search rules) c.requires.unclaimed h.3) h.3.flip.long.1); held = flipping-done (search rules) c.requires.unclaimed h.3 t.if-u-w.true })
+          (record { same = (refl, refl); more = refl; busy = λ b. placed-busy c.args.pairs.now.sensors c.args.pairs.now.idle c.args.free c.args.pairs.now.owner _ b (placed-last h.5 low (flipping-from (search rules) c.requires.unclaimed h.3) h.3.flip.long.1); held = flipping-done (search rules) c.requires.unclaimed h.3 t.if-u-w.true })
     ]
 
 pub overflow_cast-u : goal.overflow_cast-u
