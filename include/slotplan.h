@@ -3,7 +3,8 @@
  *
  * No call keeps anything from one call to the next, allocates memory, or reads or writes anything but what it is
  * passed; so calls may run side by side. Any bytes may be passed as a file. A pointer is not null, also where its
- * length is 0, and `out` does not overlap `file`. A call took 24 KiB of stack where that was measured (x86-64).
+ * length is 0, and what a call writes overlaps nothing else that it is passed. A call took 24 KiB of stack where that
+ * was measured (x86-64).
  *
  * Build the library with bench/library, and link target/staticlib/libdriver.a. */
 #ifndef SLOTPLAN_H
