@@ -13,7 +13,7 @@ pub struct Pairs {
     pub takers: [u64; 64],
     pub sensors: u64,
     pub claimed: u64,
-    /// Sensors to try first: those that were given no slot. All others have one.
+    /// Sensors to try first: those that were given no slot. In what `cover` gives, all others have one.
     pub idle: u64,
     pub notes: [Note; 64],
     pub owner: [Note; 64],

@@ -1,5 +1,5 @@
 //! The first pass: whether a file can be loaded, found without the draft.
-ghost use Rattle.std.specs.Prelude.{◌≡◌, min, leb, [], ◌∷◌, if◌then◌else◌, OnOk, nat_le};
+ghost use Rattle.std.specs.Prelude.{◌≡◌, min, [], ◌∷◌, if◌then◌else◌, OnOk, nat_le};
 ghost use Rattle.model.specs.Capacity.{most_places};
 ghost use Rattle.model.specs.Refusals.{refusal, earlier as first};
 ghost use Rattle.model.specs.Entries.{entry_causes, limit as limiting, claim as claiming};
@@ -58,7 +58,7 @@ fn fit_bound(d: &Domains, set: u8, mask: u64) -> Result<(), Refusal>
 
 // Whether a table with so many places and rules has a place for one more.
 fn fit_count(places: usize, count: usize) -> Result<(), Refusal>
-    ensures { outcome result ≡ (if leb (min places most_places) count then 8 else 0) }
+    ensures { outcome result ≡ (if nat_le (min places most_places) count then 8 else 0) }
 {
     if count >= MOST_PLACES.min(places) {
         return Err(Refusal::Room);
