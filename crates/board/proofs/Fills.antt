@@ -1,10 +1,10 @@
 -- Rows that a loop fills. Assumes nothing.
 -- the places below i are filled by f, the others are 0
-use Rattle.std.proofs.Common.{◌≡◌, ℕ, ◌+◌, ◌-◌, ◌^◌, ◌<◌, ◌≤◌, true, List, length, get_or, take, set, replicate, sym, ap, ◌∙◌, subst, inl, inr, arith, length-set, length-take-le, get_or-set_other, get_or-set_same}
+use Rattle.std.proofs.Common.{◌≡◌, ℕ, ◌+◌, ◌-◌, ◌^◌, ◌<◌, ◌≤◌, true, List, ◌++◌, length, get_or, take, drop, set, replicate, sym, ap, ◌∙◌, subst, inl, inr, arith, length-append, length-drop, length-set, length-take-le, get_or-set_other, get_or-set_same}
 use lib.ListN.{length-replicate}
 use lib.Pow.{ones_lt}
 use Rattle.std.proofs.lemmas.Bool.{both_ways, cases_eq}
-use Rattle.std.proofs.lemmas.List.{get_or-take, ext_get_or}
+use Rattle.std.proofs.lemmas.List.{get_or-take, ext_get_or, get_or-replicate, get_or_append_left, get_or-append_right, drop-replicate}
 use Rattle.model.specs.Board.{Board, Sized, room}
 use Rattle.model.specs.Box.{full, live, tab}
 use Rattle.model.specs.Capacity.{most_sensors, most_sets}
@@ -32,6 +32,16 @@ one_more f long i xs v h e w = record {
   ];
   past = λ j r. get_or-set_other xs i j v 0 (λ q. omega arith) ∙ w.past j (omega arith);
 }
+
+-- a mask at the first n places
+pub front : (v long n : ℕ) → n ≤ long → Filled (λ _. v) long n (replicate n v ++ drop n (replicate long 0))
+front v long n le =
+    let many : length (replicate n v) ≡ n = length-replicate n v in
+    record {
+      many = length-append (replicate n v) _ ∙ omega (arith, many, length-drop {A = ℕ} n (replicate long 0), length-replicate {A = ℕ} long 0);
+      at = λ j r. get_or_append_left (replicate n v) _ 0 j (omega (arith, many)) ∙ get_or-replicate n j v 0 r;
+      past = λ j r. get_or-append_right (replicate n v) _ n j 0 many r ∙ ap (λ xs. get_or xs (j - n) 0) (drop-replicate n long 0) ∙ zeros (long - n) (j - n);
+    }
 
 pub front-tab : (f : ℕ → ℕ) (long n : ℕ) (xs : List ℕ) → n ≤ long → Filled f long n xs → take n xs ≡ tab f n
 front-tab f long n xs le w =

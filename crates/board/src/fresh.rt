@@ -1,4 +1,4 @@
-ghost use Rattle.std.specs.Prelude.{◌≡◌, IfOk, if◌then◌else◌};
+ghost use Rattle.std.specs.Prelude.{◌≡◌, ◌≤◌, ◌++◌, IfOk, if◌then◌else◌, drop, replicate};
 ghost use Rattle.masks.specs.Masks.{has};
 ghost use Rattle.model.specs.Board.{Sized, board_of};
 ghost use Rattle.model.specs.Box.{full};
@@ -44,17 +44,25 @@ fn all_of(kinds: u64, set: u8, slots: u64, sensors: u64) -> u64
     if contains(kinds, set) { slots } else { sensors }
 }
 
+// The mask at the first n places, nothing at the others.
+fn front(n: u8, mask: u64) -> [u64; MOST_SENSORS]
+    requires { n ≤ 64 }
+    ensures { result ≡ replicate n mask ++ drop n (replicate 64 0) }
+{
+    let mut row = [0; MOST_SENSORS];
+    row[..n as usize].fill(mask);
+    row
+}
+
 fn fresh(n: u8, m: u8, k: u8, kinds: u64) -> Domains
     requires { Sized n m k kinds }
     ensures { (board result ≡ board_of n m k kinds) × (model result ≡ full (board_of n m k kinds)) }
 {
     let slots = all_below(m);
     let sensors = all_below(n);
-    let mut cands = [0; MOST_SENSORS];
-    for i in 0..n as usize {
-        cands[i] = slots;
-    }
+    let cands = front(n, slots);
     let mut hi = [0; MOST_SETS];
+    // j is the set that `kinds` is asked for, and not just its place
     for j in 0..k {
         hi[j as usize] = all_of(kinds, j, slots, sensors);
     }

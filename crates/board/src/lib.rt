@@ -1,6 +1,7 @@
 #![tactic(auto)]
 
 pub mod domains;
+pub mod fits;
 pub mod fresh;
 pub mod reads;
 pub mod refusal;

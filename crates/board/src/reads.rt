@@ -4,7 +4,7 @@ ghost use Rattle.model.specs.Board.{room as room_of};
 ghost use Rattle.model.specs.Box.{cand, lo as low_of, hi as high_of, live};
 ghost use Rattle.board.specs.Model.{board, model};
 
-use crate::domains::{Domains, MOST_SENSORS, MOST_SETS};
+use crate::domains::{Domains, MOST_SENSORS};
 use masks::contains;
 
 impl Domains {
@@ -38,18 +38,15 @@ impl Domains {
     pub fn room(&self, set: u8) -> u8
         ensures { result ≡ room_of (board self.now) set }
     {
-        match self.of_slots(set) {
-            true => self.slots,
-            false => self.sensors,
-        }
+        let Domains { sensors, slots, .. } = *self;
+        if self.of_slots(set) { slots } else { sensors }
     }
 
     // The candidates of a sensor; none for a number that is no sensor.
     pub fn candidates(&self, sensor: u8) -> u64
         ensures { result ≡ cand (model self.now) sensor }
     {
-        let i = sensor as usize;
-        if i < MOST_SENSORS { self.cands[i] } else { 0 }
+        self.cands.get(sensor as usize).copied().unwrap_or(0)
     }
 
     // The candidates of all sensors; none beyond the last.
@@ -63,16 +60,14 @@ impl Domains {
     pub fn lower(&self, set: u8) -> u64
         ensures { result ≡ low_of (model self.now) set }
     {
-        let j = set as usize;
-        if j < MOST_SETS { self.lo[j] } else { 0 }
+        self.lo.get(set as usize).copied().unwrap_or(0)
     }
 
     // The upper bound of a set; empty for a number that is no set.
     pub fn upper(&self, set: u8) -> u64
         ensures { result ≡ high_of (model self.now) set }
     {
-        let j = set as usize;
-        if j < MOST_SETS { self.hi[j] } else { 0 }
+        self.hi.get(set as usize).copied().unwrap_or(0)
     }
 
     // Whether the box is the dead one.

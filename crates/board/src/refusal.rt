@@ -1,75 +1,57 @@
-ghost use Rattle.std.specs.Prelude.{◌≡◌};
-ghost use Rattle.model.specs.Refusals.{order, rank_in, earlier as first};
+ghost use Rattle.std.specs.Prelude.{◌≡◌, Some, decimal};
+ghost use Rattle.model.specs.Refusals.{earlier as first};
 ghost use Rattle.board.specs.Numbers.{number, outcome};
 
-// Why a call is refused.
-#[derive(Clone, Copy, PartialEq, Eq, Debug)]
+use std::error::Error;
+use std::fmt;
+
+// Why a call is refused, by the number that it is known by. Of several causes the one with the least number counts.
+#[derive(Clone, Copy, PartialEq, Eq, PartialOrd, Ord, Debug)]
 pub enum Refusal {
     // n, m, k or the kind word is out of range
-    Board,
+    Board = 1,
     // no such sensor
-    Sensor,
+    Sensor = 2,
     // no such set
-    Set,
+    Set = 3,
     // a mask has a number that is not on the board
-    Mask,
+    Mask = 4,
     // a set of the wrong kind, or sets of two kinds
-    Kind,
+    Kind = 5,
     // one set named twice
-    Twice,
+    Twice = 6,
     // least and greatest count do not make a range
-    Count,
+    Count = 7,
     // too few free places
-    Room,
+    Room = 8,
     // the output is too short
-    Output,
+    Output = 9,
 }
 
-impl Refusal {
-    // The number that a refusal is known by.
-    pub fn number(self) -> u8
-        ensures { result ≡ number self }
-    {
-        match self {
-            Refusal::Board => 1,
-            Refusal::Sensor => 2,
-            Refusal::Set => 3,
-            Refusal::Mask => 4,
-            Refusal::Kind => 5,
-            Refusal::Twice => 6,
-            Refusal::Count => 7,
-            Refusal::Room => 8,
-            Refusal::Output => 9,
-        }
-    }
+impl From<Refusal> for u8 {
+    ghost from_gives = { λ refusal n. n ≡ number refusal };
 
-    // The place in the order in which causes count.
-    fn rank(self) -> u8
-        ensures { result ≡ rank_in order (number self) }
-    {
-        match self {
-            Refusal::Board => 0,
-            Refusal::Sensor => 1,
-            Refusal::Set => 2,
-            Refusal::Mask => 3,
-            Refusal::Kind => 4,
-            Refusal::Twice => 5,
-            Refusal::Count => 6,
-            Refusal::Room => 7,
-            Refusal::Output => 8,
-        }
+    fn from(refusal: Refusal) -> u8 {
+        refusal as u8
     }
 }
+
+impl fmt::Display for Refusal {
+    ghost output = { λ refusal. Some (decimal (number refusal)) };
+
+    fn fmt<W: fmt::Write>(&self, f: &mut fmt::Formatter<W>) -> fmt::Result {
+        u8::from(*self).fmt(f)
+    }
+}
+
+impl Error for Refusal {}
 
 // Of two answers the refusal that counts first.
 pub fn earlier(a: Result<(), Refusal>, b: Result<(), Refusal>) -> Result<(), Refusal>
     ensures { outcome result ≡ first (outcome a) (outcome b) }
 {
-    let Err(x) = a else {
-        return b;
-    };
-    let Err(y) = b else {
-        return a;
-    };
-    if x.rank() <= y.rank() { Err(x) } else { Err(y) }
+    match (a, b) {
+        (Err(x), Err(y)) => Err(x.min(y)),
+        (Ok(()), other) | (other, Ok(())) => other,
+    }
 }

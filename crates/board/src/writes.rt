@@ -8,7 +8,8 @@ use crate::domains::{Domains, MOST_SENSORS, MOST_SETS};
 use masks::{is_within, take_out};
 
 // The three ways in which a box is narrowed. Each touches one word and tests just that; each tells whether it changed the box.
-// What names nothing on the board changes nothing.
+// What names nothing on the board changes nothing. A claim and a bar differ in the bound, the operation and the test, so they are two.
+// Each says in clauses that the board stays and that a change makes the box smaller: no type of the box could, as it does not know the box before.
 impl Domains {
     // Keeps the candidates of a sensor that are in the mask.
     pub fn limit(&mut self, sensor: u8, mask: u64) -> bool
@@ -82,19 +83,15 @@ impl Domains {
         true
     }
 
-    // Makes it the dead box of its board.
+    // Makes it the dead box of its board. Rare, and kept out of line: what narrows a box is called thousands of times.
+    #[cold]
+    #[inline(never)]
     fn kill(&mut self)
         ensures board { board self.new ≡ board self.old }
         ensures model { model self.new ≡ dead (board self.old) }
     {
-        *self = Domains {
-            sensors: self.sensors,
-            slots: self.slots,
-            sets: self.sets,
-            kinds: self.kinds,
-            cands: [0; MOST_SENSORS],
-            lo: [0; MOST_SETS],
-            hi: [0; MOST_SETS],
-        };
+        self.cands = [0; MOST_SENSORS];
+        self.lo = [0; MOST_SETS];
+        self.hi = [0; MOST_SETS];
     }
 }

@@ -3,10 +3,9 @@
 
 mod sheets;
 
-use anyhow::anyhow;
+use anyhow::Context;
 use kinds::SheetRule;
 use planner::printing::print_sheet;
-use sets::row::Row;
 use sheets::{BOARD, ENTRIES, FAST, FAST_TWO, MENDED, TOO_FEW};
 use std::io::Write;
 use text::listing::LONGEST_LISTING;
@@ -27,11 +26,9 @@ fn main(rt: HostRuntime) -> anyhow::Result<()> {
 fn exercise(rt: &HostRuntime, title: &str, file: &[u8]) -> anyhow::Result<()> {
     println!(rt; "{title}")?;
     print_bytes(rt, file)?;
-    let mut places = [SheetRule::Row(Row { a: 0 }); PLACES];
+    let mut places = [SheetRule::default(); PLACES];
     let mut out = [0u8; LONGEST_LISTING];
-    let Ok(end) = print_sheet(file, &mut places, &mut out) else {
-        return Err(anyhow!("the output is too short"));
-    };
+    let end = print_sheet(file, &mut places, &mut out).context("the output is too short")?;
     rt.stdout().write_all(&out[..end])?;
     Ok(())
 }

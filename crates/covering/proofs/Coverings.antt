@@ -2,7 +2,7 @@
 use Rattle.std.proofs.Common.{◌≡◌, ℕ, ◌+◌, ◌^◌, ◌<◌, ◌≤◌, Bool, true, false, not, ◌&&◌, ◌⊎◌, List, length, get_or, set, sym, refl, ap, ◌∙◌, subst, inl, inr, arith, length-set, get_or-set_other, get_or-set_same}
 use lib.Bits.{bit_or}
 use Rattle.std.proofs.lemmas.Bool.{cases_eq, cases_Bool, both_ways}
-use Rattle.masks.specs.Masks.{has, without}
+use Rattle.masks.specs.Masks.{has, without, Parted}
 use Rattle.masks.proofs.Masks.{has-zero, has-without, has-below}
 use Rattle.masks.proofs.Subsets.{has-ext}
 use Rattle.covering.specs.Covering.{Covering, Short, Avoidable, Allowed, Needed}
@@ -245,30 +245,31 @@ under-start takers sensors claimed notes owner ln lo n o = record {
   ];
 }
 
-pub under_more : {takers : List ℕ} {sensors claimed left held : ℕ} {notes owner : List ℕ} {given : List ℕ} {all : ℕ} {new gave : List ℕ} (w : ℕ)
-    → has left w ≡ true → Under takers sensors claimed left held notes owner → Matching given all (bit_or held (2 ^ w)) new gave
-    → Under given all claimed (without left (2 ^ w)) (bit_or held (2 ^ w)) new gave
-under_more {claimed = claimed} {left = left} {held = held} w e h m = record {
-  matching = m;
-  rest = λ v t.
-      let p = h.rest v (drop-only left w v t) in (
-        p.0,
-        elim (cases_Bool (has (bit_or held (2 ^ w)) v)) [
-          | inl q ↦ elim (or-only held w v q) [
-            | inl z ↦ absurd (drop-apart left w v t z)
-            | inr y ↦ absurd (both_ways _ p.1 y)
-          ]
-          | inr f ↦ f
-        ],
-      );
-  all = λ v. elim (cases_eq v w) [
-    | inl z ↦ subst (λ (x : ℕ). has (bit_or held (2 ^ w)) x ≡ has (without claimed (without left (2 ^ w))) x) (sym z)
-        (or-here held w ∙ sym (less-has claimed (without left (2 ^ w)) w (h.rest w e).0 (drop-gone left w)))
-    | inr ne ↦
-        or-other held w v ne ∙ h.all v ∙ has-without claimed left v ∙ ap (λ (b : Bool). has claimed v && not b) (sym (drop-other left w v ne))
-        ∙ sym (has-without claimed (without left (2 ^ w)) v)
-  ];
-}
+pub under_more : {takers : List ℕ} {sensors claimed left held w others : ℕ} {notes owner : List ℕ} {given : List ℕ} {all : ℕ} {new gave : List ℕ}
+    → Parted left w others → Under takers sensors claimed left held notes owner → Matching given all (bit_or held (2 ^ w)) new gave
+    → Under given all claimed others (bit_or held (2 ^ w)) new gave
+under_more {claimed = claimed} {left = left} {held = held} {w = w} {given = given} {all = all} {new = new} {gave = gave} p h m =
+    subst (λ (x : ℕ). Under given all claimed x (bit_or held (2 ^ w)) new gave) (sym p.others) (record {
+      matching = m;
+      rest = λ v t.
+          let q = h.rest v (drop-only left w v t) in (
+            q.0,
+            elim (cases_Bool (has (bit_or held (2 ^ w)) v)) [
+              | inl g ↦ elim (or-only held w v g) [
+                | inl z ↦ absurd (drop-apart left w v t z)
+                | inr y ↦ absurd (both_ways _ q.1 y)
+              ]
+              | inr f ↦ f
+            ],
+          );
+      all = λ v. elim (cases_eq v w) [
+        | inl z ↦ subst (λ (x : ℕ). has (bit_or held (2 ^ w)) x ≡ has (without claimed (without left (2 ^ w))) x) (sym z)
+            (or-here held w ∙ sym (less-has claimed (without left (2 ^ w)) w (h.rest w p.member).0 (drop-gone left w)))
+        | inr ne ↦
+            or-other held w v ne ∙ h.all v ∙ has-without claimed left v ∙ ap (λ (b : Bool). has claimed v && not b) (sym (drop-other left w v ne))
+            ∙ sym (has-without claimed (without left (2 ^ w)) v)
+      ];
+    })
 
 pub under_all : {takers : List ℕ} {sensors claimed left held : ℕ} {notes owner : List ℕ} → left ≡ 0
     → Under takers sensors claimed left held notes owner → held ≡ claimed

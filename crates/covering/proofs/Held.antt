@@ -3,12 +3,8 @@ use Rattle.std.proofs.Common.{◌≡◌, ℕ, ◌^◌, ◌<◌, Bool, true, ◌�
 use Rattle.std.proofs.lemmas.Bool.{cases_eq}
 use Rattle.masks.specs.Masks.{has}
 use Rattle.masks.proofs.Masks.{has-below}
-use Rattle.covering.specs.Matching.{Matching}
 use Rattle.covering.specs.Notes.{NotesOf, sensor_of}
 use Rattle.covering.specs.declared.notes.Notes.{Notes}
-
-pub matching : (n : Notes) → Matching n.pairs.takers n.pairs.sensors n.pairs.claimed n.pairs.notes n.pairs.owner
-matching n = record { noted = n.noted; owned = n.owned; returned = n.returned; bare = n.bare; marked = n.marked; long = n.long }
 
 -- what holds for the sensors and slots of the notes holds for those that they are of
 pub at-notes : (P : ℕ → ℕ → Type 0) (can : ℕ → ℕ → Bool) (sensors claimed : ℕ) (n : Notes) → NotesOf can sensors claimed n
@@ -19,7 +15,7 @@ at-notes P can sensors claimed n f g =
 
 -- the slot of a sensor that has one
 pub slot : (n : Notes) (i : ℕ) → i < 64 → (get_or n.pairs.owner i 0 ≡ 64 → ⊥) → get_or n.pairs.owner i 0 < 64
-slot n i l ne = omega (arith, n.marked i l, ne)
+slot n i l ne = omega (arith, n.matching.marked i l, ne)
 
 pub sensors-low : (n : Notes) (j : ℕ) → has n.pairs.sensors j ≡ true → j < 64
 sensors-low n j e = has-below 64 n.pairs.sensors j n.sized e
@@ -31,5 +27,5 @@ claimed-low n l v e = has-below 64 n.pairs.claimed v l e
 pub owns : (n : Notes) (i : ℕ) → i < 64 → (get_or n.pairs.owner i 0 ≡ 64) ⊎ ((u : ℕ) × (has n.pairs.claimed u ≡ true) × (sensor_of n u ≡ i))
 owns n i l = elim (cases_eq (get_or n.pairs.owner i 0) 64) [
   | inl z ↦ inl z
-  | inr ne ↦ (let u = slot n i l ne in inr (get_or n.pairs.owner i 0, n.owned i l u, n.returned i l u))
+  | inr ne ↦ (let u = slot n i l ne in inr (get_or n.pairs.owner i 0, n.matching.owned i l u, n.matching.returned i l u))
 ]

@@ -3,10 +3,9 @@ use Rattle.std.proofs.Common.{◌≡◌, ℕ, ◌+◌, ◌^◌, ◌<◌, Bool, t
 use lib.Bits.{bit_and, bit_or, or_zero_r}
 use lib.Count.{ones}
 use Rattle.std.proofs.lemmas.Bool.{cases_eq, cases_Bool, both_ways, eq-eqb, ne_eqb, cond-true, cond-false, and_parts, and_from, or_from, or_right}
-use Rattle.masks.specs.Masks.{has, without}
+use Rattle.masks.specs.Masks.{has, without, Parted}
 use Rattle.masks.proofs.Masks.{has-and, has-or, has-without, has-zero}
 use Rattle.masks.proofs.Subsets.{has-ext}
-use Rattle.covering.specs.Matching.{Parted}
 use Rattle.covering.specs.Search.{Owners, Marks, Hunt, Led}
 use Rattle.covering.proofs.Singles.{Joined, or-here, or-keeps, or-only, or-not, or-ones, drop-gone, drop-other, drop-only, less-only, less-not, less-joined, drop-ones}
 

@@ -1,12 +1,12 @@
--- One member taken in, taken out, or found. Assumes nothing.
-use Rattle.std.proofs.Common.{◌≡◌, ℕ, zero, suc, ◌+◌, ◌-◌, ◌/◌, ◌%◌, ◌^◌, ◌<◌, Bool, true, false, not, ◌&&◌, ◌||◌, ◌⊎◌, sym, refl, ap, ◌∙◌, subst, inl, inr, pow-suc, arith}
-use lib.Bits.{bit_and, bit_or, or_step, or_zero_r, and_step, and_self, and_comm}
-use lib.Count.{ones, ones_step, count_trailing_zeros}
-use Rattle.std.proofs.lemmas.Bool.{cases_eq, cases_Bool, both_ways, eqb-true, eqb-false, eq-eqb, and_parts, and_from, or_cases, or_left, or_right, not-true, not_from_false, not_from_true}
-use Rattle.masks.specs.Masks.{has, without}
-use Rattle.masks.proofs.Masks.{bit, half-below, has-or, has-without, has-single}
-use Rattle.masks.proofs.Subsets.{has-ext, single-has, single-other, single-within}
-use Rattle.covering.specs.Matching.{Parted}
+-- One member taken in or taken out. Assumes nothing.
+use Rattle.std.proofs.Common.{◌≡◌, ℕ, ◌+◌, ◌%◌, ◌^◌, ◌<◌, Bool, true, false, not, ◌&&◌, ◌||◌, ◌⊎◌, sym, refl, ap, ◌∙◌, subst, inl, inr, arith}
+use lib.Bits.{bit_or}
+use lib.Count.{ones}
+use Rattle.std.proofs.lemmas.Bool.{cases_eq, cases_Bool, both_ways, eqb-true, and_parts, and_from, or_cases, or_left, or_right, not-true, not_from_false, not_from_true}
+use Rattle.masks.specs.Masks.{has, without, Parted}
+use Rattle.masks.proofs.Masks.{has-or, has-without, has-single}
+use Rattle.masks.proofs.Subsets.{has-ext, single-has, single-other}
+use Rattle.masks.proofs.Sizes.{ones-more, ones-less}
 
 -- r is the mask m with i taken in
 pub record Joined (m i r : ℕ) : Type 0 where
@@ -56,23 +56,7 @@ or-other m i k ne = has-or m (2 ^ i) k ∙ go (has m k) (has (2 ^ i) k) (single-
     go false b e = e
 
 pub or-ones : (i m : ℕ) → has m i ≡ false → ones (bit_or m (2 ^ i)) ≡ ones m + 1
-unfolding has
-or-ones zero m h =
-    let n = eqb-false (m % 2) 1 h in
-    let z : bit_or (m / 2) (1 / 2) ≡ m / 2 = or_zero_r (m / 2) in
-    let e : m % 2 ≡ 0 = omega (arith, n) in
-    let s = or_step m 1 in
-    let p : bit_or m 1 / 2 ≡ m / 2 = omega arith in
-    let q : bit_or m 1 % 2 ≡ 1 = omega arith in
-    omega (arith, ones_step (bit_or m 1), ones_step m, ap ones p)
-or-ones (suc i) m h =
-    let w = pow-suc 2 i in
-    let half : 2 ^ suc i / 2 ≡ 2 ^ i = omega arith in
-    let z : bit_or (m / 2) (2 ^ suc i / 2) ≡ bit_or (m / 2) (2 ^ i) = ap (λ (x : ℕ). bit_or (m / 2) x) half in
-    let s = or_step m (2 ^ suc i) in
-    let p : bit_or m (2 ^ suc i) / 2 ≡ bit_or (m / 2) (2 ^ i) = omega arith in
-    let q : bit_or m (2 ^ suc i) % 2 ≡ m % 2 = omega arith in
-    omega (arith, ones_step (bit_or m (2 ^ suc i)), ones_step m, ap ones p, or-ones i (m / 2) h)
+or-ones i m e = omega (arith, ones-more i m e)
 
 pub or-joined : (m i : ℕ) → Joined m i (bit_or m (2 ^ i))
 or-joined m i = record { here = or-here m i; keeps = or-keeps m i; only = or-only m i; one = or-ones i m }
@@ -103,24 +87,18 @@ pub drop-apart : (m i k : ℕ) → has (without m (2 ^ i)) k ≡ true → k ≡ 
 drop-apart m i k e z = both_ways _ (drop-gone m i) (subst (λ (x : ℕ). has (without m (2 ^ i)) x ≡ true) z e)
 
 pub drop-ones : (i m : ℕ) → has m i ≡ true → ones (without m (2 ^ i)) + 1 ≡ ones m
-drop-ones i m h = sym (or-ones i (without m (2 ^ i)) (drop-gone m i)) ∙ ap ones (has-ext _ m same)
-  where
-    same : (k : ℕ) → has (bit_or (without m (2 ^ i)) (2 ^ i)) k ≡ has m k
-    same k = elim (cases_eq k i) [
-      | inl e ↦ rw e (or-here (without m (2 ^ i)) i ∙ sym h)
-      | inr ne ↦ has-or (without m (2 ^ i)) (2 ^ i) k ∙ go _ _ _ (drop-other m i k ne) (single-other i k (λ e. ne (sym e)))
-    ]
-      where
-        go : (a b c : Bool) → a ≡ c → b ≡ false → (a || b) ≡ c
-        go true b c e f = e
-        go false b c e f = f ∙ e
-
-pub fewer-left : (m i : ℕ) → has m i ≡ true → ones (without m (2 ^ i)) < ones m
-fewer-left m i e = omega (arith, drop-ones i m e)
+drop-ones i m e = omega (arith, ones-less i m e)
 
 -- a number that is not left when i is taken out, and is not i, was not left before
 pub left_out : (left i k : ℕ) → (k ≡ i → ⊥) → has (without left (2 ^ i)) k ≡ false → has left k ≡ false
 left_out left i k ne f = sym (drop-other left i k ne) ∙ f
+
+-- a number is left after i was taken out; one that is not, and is not i, was not left before
+pub part-only : {left i rest : ℕ} → Parted left i rest → (k : ℕ) → has rest k ≡ true → has left k ≡ true
+part-only {left} {i} p k e = drop-only left i k (subst (λ (x : ℕ). has x k ≡ true) p.others e)
+
+pub part-out : {left i rest : ℕ} → Parted left i rest → (k : ℕ) → (k ≡ i → ⊥) → has rest k ≡ false → has left k ≡ false
+part-out {left} {i} p k ne f = left_out left i k ne (subst (λ (x : ℕ). has x k ≡ false) p.others f)
 
 -- ---- the members of a that b lacks
 
@@ -169,40 +147,3 @@ less-joined a b i ea eb = record {
     same k = iff _ _
         (λ e. elim (only k e) [ inl z ↦ rw z (or-here (without a b) i) | inr t ↦ or-keeps (without a b) i k t ])
         (λ e. elim (or-only (without a b) i k e) [ inl z ↦ rw z (less-has a (without b (2 ^ i)) i ea (drop-gone b i)) | inr t ↦ keeps k t ])
-
--- ---- found
-
-pub trailing-has : (k m : ℕ) → m < 2 ^ k → (m ≡ 0 → ⊥) → (count_trailing_zeros k m < k) × (has m (count_trailing_zeros k m) ≡ true)
-unfolding count_trailing_zeros has
-trailing-has zero m h ne = absurd (ne (omega arith))
-trailing-has (suc k) m h ne = elim (bit m) [
-  | inl e ↦
-      let again = trailing-has k (m / 2) (half-below k m h) (λ z. ne (omega arith)) in
-      rw e (omega (arith, again.0), again.1)
-  | inr e ↦ rw e (omega arith, eq-eqb (m % 2) 1 e)
-]
-
--- taking one off a number takes its lowest member out
-pub lowest-out : (k m : ℕ) → m < 2 ^ k → (m ≡ 0 → ⊥) → (bit_and m (m - 1) + 2 ^ count_trailing_zeros k m ≡ m)
-unfolding count_trailing_zeros
-lowest-out zero m h ne = absurd (ne (omega arith))
-lowest-out (suc k) m h ne = elim (bit m) [
-  | inl e ↦
-      let some : m / 2 ≡ 0 → ⊥ = (λ z. ne (omega arith)) in
-      let again = lowest-out k (m / 2) (half-below k m h) some in
-      let half : (m - 1) / 2 ≡ m / 2 - 1 = omega (arith, ne) in
-      let s : bit_and (m / 2) ((m - 1) / 2) ≡ bit_and (m / 2) (m / 2 - 1) = ap (λ (x : ℕ). bit_and (m / 2) x) half in
-      rw e (omega (arith, and_step m (m - 1), s, again, pow-suc 2 (count_trailing_zeros k (m / 2))))
-  | inr e ↦
-      let half : (m - 1) / 2 ≡ m / 2 = omega arith in
-      let s : bit_and (m / 2) ((m - 1) / 2) ≡ m / 2 = ap (λ (x : ℕ). bit_and (m / 2) x) half ∙ and_self (m / 2) in
-      rw e (omega (arith, and_step m (m - 1), s))
-]
-
--- the lowest member and the others
-pub split-parted : (m : ℕ) → m < 2 ^ 64 → (m ≡ 0 → ⊥) → Parted m (count_trailing_zeros 64 m) (bit_and m (m - 1))
-split-parted m h ne =
-    let t = trailing-has 64 m h ne in
-    let one : bit_and m (2 ^ count_trailing_zeros 64 m) ≡ 2 ^ count_trailing_zeros 64 m =
-    and_comm m (2 ^ count_trailing_zeros 64 m) ∙ eqb-true _ _ (single-within (count_trailing_zeros 64 m) m t.1) in
-    record { low = t.0; member = t.1; others = omega (arith, one, lowest-out 64 m h ne) }

@@ -2,7 +2,7 @@
 use Rattle.std.proofs.Common.{◌≡◌, ℕ, ◌^◌, ◌<◌, Bool, true, false, cond, not, ◌&&◌, ◌||◌, List, length, get_or, set, sym, refl, ap, ◌∙◌, subst, inl, inr, arith, length-set, get_or-set_other, get_or-set_same}
 use lib.Bits.{bit_and, bit_or}
 use Rattle.std.proofs.lemmas.Bool.{cases_eq, cases_Bool, both_ways, and_left, cond-true, cond-false}
-use Rattle.masks.specs.Masks.{has, without}
+use Rattle.masks.specs.Masks.{has, without, Parted}
 use Rattle.masks.proofs.Masks.{has-or, has-and, has-zero}
 use Rattle.masks.proofs.Subsets.{single-other}
 use Rattle.covering.specs.Matching.{Turned, Tells}
@@ -28,17 +28,23 @@ added-start slots who old long = record {
       | inr f ↦ f
     ]
 
-pub added_more : {slots left who : ℕ} {old takers : List ℕ} (v : ℕ) → v < 64 → has left v ≡ true → Added slots left who old takers
-    → Added slots (without left (2 ^ v)) who old (set takers v (bit_or (get_or takers v 0) who))
-added_more {slots} {left} {who} {old} {takers} v lv e h = record {
+pub added_more : {slots left who v rest : ℕ} {old takers : List ℕ} → Parted left v rest → Added slots left who old takers
+    → Added slots rest who old (set takers v (bit_or (get_or takers v 0) who))
+added_more {slots} {left} {who} {v} {rest} {old} {takers} p h = subst (λ (x : ℕ). Added slots x who old (set takers v (bit_or (get_or takers v 0) who))) (sym p.others) (record {
   each = λ x lx. elim (cases_eq x v) [
     | inl z ↦ subst (λ (y : ℕ). get_or (set takers v (bit_or (get_or takers v 0) who)) y 0 ≡ cond (has (without slots (without left (2 ^ v))) y) (bit_or (get_or old y 0) who) (get_or old y 0)) (sym z) here
     | inr ne ↦ get_or-set_other takers v x _ 0 ne ∙ h.each x lx ∙ ap (λ (b : Bool). cond b (bit_or (get_or old x 0) who) (get_or old x 0)) (sym (same x ne))
   ];
   inside = λ x q. h.inside x (drop-only left v x q);
   long = length-set takers v _ ∙ h.long;
-}
+})
   where
+    lv : v < 64
+    lv = p.low
+
+    e : has left v ≡ true
+    e = p.member
+
     was : get_or takers v 0 ≡ get_or old v 0
     was = h.each v lv ∙ cond-false _ (bit_or (get_or old v 0) who) (get_or old v 0) (less-not slots left v e)
 
@@ -50,9 +56,9 @@ added_more {slots} {left} {who} {old} {takers} v lv e h = record {
     same : (x : ℕ) → (x ≡ v → ⊥) → has (without slots (without left (2 ^ v))) x ≡ has (without slots left) x
     same x ne = Rattle.masks.proofs.Masks.has-without slots (without left (2 ^ v)) x ∙ ap (λ (b : Bool). has slots x && not b) (drop-other left v x ne) ∙ sym (Rattle.masks.proofs.Masks.has-without slots left x)
 
-pub added-all : {slots who : ℕ} {old takers : List ℕ} → (left : ℕ) → left ≡ 0 → Added slots left who old takers
+pub added-all : {slots left who : ℕ} {old takers : List ℕ} → left ≡ 0 → Added slots left who old takers
     → (v : ℕ) → v < 64 → get_or takers v 0 ≡ cond (has slots v) (bit_or (get_or old v 0) who) (get_or old v 0)
-added-all {slots} {who} {old} left z h v l =
+added-all {slots} {left} {who} {old} z h v l =
     h.each v l ∙ ap (λ (b : Bool). cond b (bit_or (get_or old v 0) who) (get_or old v 0)) (ap (λ (x : ℕ). has (without slots x) v) z ∙ rest)
   where
     rest : has (without slots 0) v ≡ has slots v
@@ -78,10 +84,10 @@ turned-start cands sensors claimed takers long zeros = record {
       | inr f ↦ f
     ]
 
-pub turned_more : {cands : List ℕ} {sensors claimed left : ℕ} {old takers : List ℕ} (i : ℕ) → has left i ≡ true → length takers ≡ 64
+pub turned_more : {cands : List ℕ} {sensors claimed left i rest : ℕ} {old takers : List ℕ} → Parted left i rest → length takers ≡ 64
     → ((v : ℕ) → v < 64 → get_or takers v 0 ≡ cond (has (bit_and (get_or cands i 0) claimed) v) (bit_or (get_or old v 0) (2 ^ i)) (get_or old v 0))
-    → Turned cands sensors claimed left old → Turned cands sensors claimed (without left (2 ^ i)) takers
-turned_more {cands} {sensors} {claimed} {left} {old} {takers} i e long f h = record {
+    → Turned cands sensors claimed left old → Turned cands sensors claimed rest takers
+turned_more {cands} {sensors} {claimed} {left} {i} {rest} {old} {takers} p long f h = subst (λ (x : ℕ). Turned cands sensors claimed x takers) (sym p.others) (record {
   each = λ v k l. ap (λ (x : ℕ). has x k) (f v l) ∙ elim (cases_eq k i) [
     | inl z ↦ subst (λ (x : ℕ). has (cond (has (bit_and (get_or cands i 0) claimed) v) (bit_or (get_or old v 0) (2 ^ i)) (get_or old v 0)) x
         ≡ (has (without sensors (without left (2 ^ i))) x && has (bit_and (get_or cands x 0) claimed) v)) (sym z) (here v l)
@@ -89,8 +95,11 @@ turned_more {cands} {sensors} {claimed} {left} {old} {takers} i e long f h = rec
   ];
   inside = λ x q. h.inside x (drop-only left i x q);
   long = long;
-}
+})
   where
+    e : has left i ≡ true
+    e = p.member
+
     same : (x : ℕ) → (x ≡ i → ⊥) → has (without sensors (without left (2 ^ i))) x ≡ has (without sensors left) x
     same x ne = Rattle.masks.proofs.Masks.has-without sensors (without left (2 ^ i)) x ∙ ap (λ (b : Bool). has sensors x && not b) (drop-other left i x ne) ∙ sym (Rattle.masks.proofs.Masks.has-without sensors left x)
 
@@ -112,8 +121,8 @@ turned_more {cands} {sensors} {claimed} {left} {old} {takers} i e long f h = rec
         now : has (without sensors (without left (2 ^ i))) i ≡ true
         now = less-has sensors (without left (2 ^ i)) i (h.inside i e) (drop-gone left i)
 
-pub turned-all : {cands : List ℕ} {sensors claimed : ℕ} {takers : List ℕ} (left : ℕ) → left ≡ 0 → Turned cands sensors claimed left takers → Turned cands sensors claimed 0 takers
-turned-all {cands} {sensors} {claimed} {takers} left z h = subst (λ (x : ℕ). Turned cands sensors claimed x takers) z h
+pub turned-all : {cands : List ℕ} {sensors claimed left : ℕ} {takers : List ℕ} → left ≡ 0 → Turned cands sensors claimed left takers → Turned cands sensors claimed 0 takers
+turned-all {cands} {sensors} {claimed} {left} {takers} z h = subst (λ (x : ℕ). Turned cands sensors claimed x takers) z h
 
 pub turned-tells : {cands : List ℕ} {sensors claimed : ℕ} {takers : List ℕ} → ((v : ℕ) → has claimed v ≡ true → v < 64)
     → Turned cands sensors claimed 0 takers → Tells (candidate cands) sensors claimed takers

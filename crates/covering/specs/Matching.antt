@@ -1,6 +1,6 @@
 -- A covering as the code holds it. `takers` has for each slot the mask of the sensors that may take it, `notes` for each slot its
 -- sensor, `owner` for each sensor its slot, each 64 where there is none. Assumes nothing.
-use Rattle.std.specs.Prelude.{◌≡◌, ℕ, ◌^◌, ◌<◌, ◌≤◌, Bool, true, false, ◌&&◌, List, length, bit_and, slice_index}
+use Rattle.std.specs.Prelude.{◌≡◌, ℕ, ◌<◌, ◌≤◌, Bool, true, false, ◌&&◌, List, length, bit_and, slice_index}
 use Rattle.masks.specs.Masks.{has, without}
 
 -- the masks of takers say what `can` says
@@ -45,9 +45,3 @@ pub record Turned (cands : List ℕ) (sensors claimed left : ℕ) (takers : List
   pub each : (v i : ℕ) → v < 64 → has (slice_index takers v) i ≡ (has (without sensors left) i && has (bit_and (slice_index cands i) claimed) v)
   pub inside : (i : ℕ) → has left i ≡ true → has sensors i ≡ true
   pub long : length takers ≡ 64
-
--- a member i of a mask, and the others
-pub record Parted (mask i rest : ℕ) : Type 0 where
-  pub low : i < 64
-  pub member : has mask i ≡ true
-  pub others : rest ≡ without mask (2 ^ i)

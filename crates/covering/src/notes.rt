@@ -1,12 +1,13 @@
 ghost use Rattle.std.specs.Prelude.{◌^◌, ◌<◌};
-ghost use Rattle.covering.specs.Matching.{Noted, Owned, Returned, Bare, Marked, Long};
+ghost use Rattle.covering.specs.Paired.{Matched};
 
-/// The number of a sensor or of a slot, or `NONE`.
+/// The number of a sensor or of a slot, or `NONE`. A mark and no Option, since the search reads them from fixed arrays of bytes.
 pub type Note = u8;
 
 pub const NONE: Note = 64;
 
 /// A sensor for each slot of `claimed`, and the slot of each sensor that has one.
+/// Arrays of fixed length: there is no heap, and a map would be searched where these are indexed.
 #[derive(Clone, Copy)]
 pub struct Pairs {
     /// For each slot the sensors that may take it.
@@ -23,18 +24,6 @@ pub struct Pairs {
 #[derive(Clone, Copy)]
 pub struct Notes {
     pub pairs: Pairs,
-    ghost noted: { Noted pairs.takers pairs.sensors pairs.claimed pairs.notes pairs.owner },
-    ghost owned: { Owned pairs.claimed pairs.owner },
-    ghost returned: { Returned pairs.notes pairs.owner },
-    ghost bare: { Bare pairs.claimed pairs.notes },
-    ghost marked: { Marked pairs.owner },
+    ghost matching: { Matched pairs },
     ghost sized: { pairs.sensors < 2 ^ 64 },
-    ghost long: { Long pairs.notes pairs.owner },
-}
-
-/// What the coverings do with a sensor: some leave it out, or all give it one of the slots of a group.
-#[derive(Clone, Copy)]
-pub enum Role {
-    Free,
-    Bound(u64),
 }

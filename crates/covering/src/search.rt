@@ -15,6 +15,7 @@ pub fn search(pairs: &Pairs, sensors: u64, w: Note, from: &mut [Note; 64]) -> Re
     let mut unseen = sensors;
     let mut reached = with(0, w);
     let mut pending = reached;
+    // `pending` grows while it is worked off, and idle sensors go first: neither is a walk over the members of a mask that stands still.
     let free = 'search: loop {
         let Some((u, _)) = split(pending) else {
             break None;
@@ -33,8 +34,5 @@ pub fn search(pairs: &Pairs, sensors: u64, w: Note, from: &mut [Note; 64]) -> Re
         }
         pending = drop_one(pending, u);
     };
-    match free {
-        Some(i) => Ok(i),
-        None => Err(reached),
-    }
+    free.ok_or(reached)
 }

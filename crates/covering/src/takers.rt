@@ -2,15 +2,14 @@ ghost use Rattle.std.specs.Prelude.{◌≡◌, ℕ, ◌<◌, if◌then◌else◌
 ghost use Rattle.masks.specs.Masks.{has};
 ghost use Rattle.covering.specs.Matching.{Turned};
 
-use crate::bits::{single, split};
+use crate::bits::single;
+use masks::members;
 
 /// Takes the sensors `who` in as takers of each of the slots.
 pub fn add_takers(takers: &mut [u64; 64], slots: u64, who: u64)
     ensures { (v : ℕ) → v < 64 → slice_index takers.new v ≡ (if has slots v then bit_or (slice_index takers.old v) who else slice_index takers.old v) }
 {
-    let mut left = slots;
-    while let Some((v, rest)) = split(left) {
-        left = rest;
+    for v in members(slots) {
         takers[v as usize] |= who;
     }
 }
@@ -20,9 +19,7 @@ pub fn takers_of(cands: &[u64; 64], sensors: u64, claimed: u64) -> [u64; 64]
     ensures { Turned cands.now sensors claimed 0 result }
 {
     let mut takers = [0; 64];
-    let mut left = sensors;
-    while let Some((i, rest)) = split(left) {
-        left = rest;
+    for i in members(sensors) {
         add_takers(&mut takers, cands[i as usize] & claimed, single(i));
     }
     takers

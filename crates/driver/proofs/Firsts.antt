@@ -1,19 +1,15 @@
 -- The candidates that a file leaves to its first sensor, and masks joined.
-use Rattle.std.proofs.Common.{◌≡◌, ℕ, ◌+◌, ◌%◌, true, false, eqb, leb, List, [], ◌∷◌, Some, None, Option, sym, refl, ap, ◌∙◌, ap₂, inl, inr, arith}
+use Rattle.std.proofs.Common.{◌≡◌, ℕ, ◌+◌, ◌%◌, eqb, List, Some, None, sym, refl, ap, ◌∙◌, ap₂, inl, inr, arith}
 use lib.Bits.{bit_xor, xor_self}
-use Rattle.std.proofs.lemmas.Bool.{eq-eqb, ne_eqb, cases_eq, cond-true, cond-false, lt-leb}
+use Rattle.std.proofs.lemmas.Bool.{eq-eqb, ne_eqb, cases_eq, cond-true, cond-false}
 use Rattle.model.specs.Capacity.{most_places}
 use Rattle.model.specs.Box.{Box, cand}
 use Rattle.model.specs.Calls.{State, settle, does}
-use Rattle.model.specs.Refusals.{refusal}
-use Rattle.board.specs.Model.{board}
-use Rattle.board.specs.declared.domains.Domains.{Domains}
-use Rattle.board.proofs.Shapes.{some}
 use Rattle.kinds.specs.declared.SheetRule.{SheetRule}
 use Rattle.kinds.specs.SheetRules.{sheet_fault, sheet_run}
 use Rattle.load.specs.Loads.{load_fault, load_plan, Loaded}
 use Rattle.load.proofs.Faults.{one-plan}
-use Rattle.driver.specs.Exports.{accepted, first_in, first_of, joined}
+use Rattle.driver.specs.Exports.{first_in, first_of, joined}
 
 first-none : (b : Box) → first_in b None ≡ cand b 0
 unfolding first_in
@@ -48,13 +44,3 @@ joined-more n x =
           let even : (n + 1) % 2 ≡ 0 = omega arith in
           ap (λ m. bit_xor m x) (cond-false (eqb (n % 2) 0) 0 x (ne_eqb (n % 2) 0 odd)) ∙ xor_self x ∙ sym (cond-true (eqb ((n + 1) % 2) 0) 0 x (eq-eqb ((n + 1) % 2) 0 even))
     ]
-
--- sensor 0 is on every board
-pub not-refused : (d : Domains) → refusal ((2, leb (board d).sensors 0) ∷ []) ≡ 0
-not-refused d = ap (λ t. refusal ((2, t) ∷ [])) (lt-leb (board d).sensors 0 (some d))
-
--- ---- loads
-
-pub accepted-by : (file : List ℕ) (places : ℕ) → places ≡ most_places → (o : Option (ℕ × ℕ)) → o ≡ load_fault file places
-    → elim o [ None ↦ true | Some f ↦ false ] ≡ accepted file
-accepted-by file places e o z = ap (λ (x : Option (ℕ × ℕ)). elim x [ None ↦ true | Some f ↦ false ]) (z ∙ ap (load_fault file) e)

@@ -1,4 +1,6 @@
 //! A job is a list of steps, and is built, settled and listed.
+use crate::NO_RULES;
+use arrayvec::ArrayVec;
 use board::domains::Domains;
 use board::refusal::Refusal;
 use kinds::SheetRule;
@@ -11,7 +13,7 @@ use sets::row::Row;
 use sets::within::Within;
 use settle::settle;
 
-// One call of a plan. `op` says which, and what the other fields are:
+// One call of a plan, as C lays it out. `op` says which, by a number of the C interface, and what the other fields are:
 //   0 new: a sensors, b slots, c sets, the kind word in `kinds`
 //   1 limit sensor a to the mask    2 claim the mask for set a    3 bar the mask from set a
 //   4 post Range and 5 post Roots: the sensors of the mask, set a of sensors, set b of slots
@@ -27,74 +29,122 @@ pub struct Step {
     pub c: u8,
 }
 
-const ROW: SheetRule = SheetRule::Row(Row { a: 0 });
+// What a step asks of a plan. A list of its own beside a file's and a mix's: it names no sensor and settles nothing, and new is one of it.
+enum Act {
+    New { n: u8, m: u8, k: u8, kinds: u32 },
+    Limit { sensor: u8, mask: u64 },
+    Claim { set: u8, mask: u64 },
+    Bar { set: u8, mask: u64 },
+    Post(SheetRule),
+}
+
+// The number of a step is no call's.
+struct NoCall;
+
+impl TryFrom<&Step> for Act {
+    type Error = NoCall;
+
+    fn try_from(step: &Step) -> Result<Act, NoCall> {
+        let Step {
+            mask,
+            kinds,
+            op,
+            a,
+            b,
+            c,
+        } = *step;
+        Ok(match op {
+            0 => Act::New {
+                n: a,
+                m: b,
+                k: c,
+                kinds,
+            },
+            1 => Act::Limit { sensor: a, mask },
+            2 => Act::Claim { set: a, mask },
+            3 => Act::Bar { set: a, mask },
+            4 => Act::Post(SheetRule::Range(Range {
+                g: mask,
+                s: a,
+                t: b,
+            })),
+            5 => Act::Post(SheetRule::Roots(Roots {
+                g: mask,
+                s: a,
+                t: b,
+            })),
+            6 => Act::Post(SheetRule::Within(Within { a, b })),
+            7 => Act::Post(SheetRule::Apart(Apart { a, b })),
+            8 => Act::Post(SheetRule::Count(Count {
+                a,
+                least: b,
+                most: c,
+            })),
+            9 => Act::Post(SheetRule::Row(Row { a })),
+            _ => return Err(NoCall),
+        })
+    }
+}
 
 // Makes the calls on a new draft, settles it, and writes the listing at the front of the output; the listing's length, or 0 where the output is too short.
 // The answer to each call goes into `answers`, as far as that reaches: 0, or the number of the refusal.
+// Numbers, since C calls it.
 pub fn slotplan_listing(job: &[Step], answers: &mut [u8], out: &mut [u8]) -> usize {
-    let mut places = [ROW; MOST_PLACES];
+    let mut places = NO_RULES;
     let mut draft = Draft::begin(&mut places);
-    for i in 0..job.len() {
-        let answer = call(&mut draft, &job[i]);
-        if i < answers.len() {
-            answers[i] = number(answer);
+    for (i, step) in job.iter().enumerate() {
+        let answer = call(&mut draft, step);
+        if let Some(place) = answers.get_mut(i) {
+            *place = answer.err().map_or(0, u8::from);
         }
     }
-    let settled = draft.settle();
-    match settled.listing(out) {
-        Ok(end) => end,
-        Err(_) => 0,
-    }
+    draft.settle().listing(out).unwrap_or(0)
 }
 
 // Makes the calls on a new draft and settles it, that many times; the first sensor's candidates, joined by exclusive or.
 pub fn slotplan_jobs(job: &[Step], times: u32) -> u64 {
-    let mut places = [ROW; MOST_PLACES];
-    work(job, &mut places, times)
+    let mut places = NO_RULES;
+    (0..times).fold(0, |sum, _time| sum ^ settled_first(job, &mut places))
 }
 
 // Makes the calls once and settles what they give that many times; the first sensor's candidates, joined by exclusive or.
 pub fn slotplan_settles(job: &[Step], times: u32) -> u64 {
-    let mut rules = [ROW; MOST_PLACES];
-    let (start, count) = prepare(job, &mut rules);
-    rest(&rules, count, start, times)
+    let (start, rules) = prepare(job);
+    (0..times).fold(0, |sum, _time| {
+        let mut d = start;
+        settle(&rules, &mut d);
+        sum ^ d.candidates(0)
+    })
 }
 
-fn work(job: &[Step], places: &mut [SheetRule], times: u32) -> u64 {
-    let mut sum = 0;
-    for _time in 0..times {
-        sum ^= settled_first(job, places);
-    }
-    sum
-}
-
-// The box that the entries of a job leave, and its rules, written to the front of a list; how many there are.
-fn prepare(job: &[Step], rules: &mut [SheetRule]) -> (Domains, usize) {
-    let mut count = 0;
+// The box that the entries of a job leave, and its rules, as many as a table may have.
+fn prepare(job: &[Step]) -> (Domains, ArrayVec<SheetRule, MOST_PLACES>) {
     let mut start = Domains::least();
+    let mut rules = ArrayVec::new();
     for step in job {
-        match rule_of(step) {
-            Some(rule) => {
-                if count < rules.len() {
-                    rules[count] = rule;
-                    count += 1;
-                }
+        match Act::try_from(step) {
+            Ok(Act::New { n, m, k, kinds }) => start = Domains::new(
+                n,
+                m,
+                k,
+                u64::from(kinds),
+            ).unwrap_or(start),
+            Ok(Act::Limit { sensor, mask }) => {
+                start.limit(sensor, mask);
             }
-            None => start = entered(start, step),
+            Ok(Act::Claim { set, mask }) => {
+                start.claim(set, mask);
+            }
+            Ok(Act::Bar { set, mask }) => {
+                start.bar(set, mask);
+            }
+            Ok(Act::Post(rule)) => {
+                let _ = rules.try_push(rule);
+            }
+            Err(NoCall) => {}
         }
     }
-    (start, count)
-}
-
-fn rest(rules: &[SheetRule], count: usize, start: Domains, times: u32) -> u64 {
-    let used = &rules[0..count.min(rules.len())];
-    let mut sum = 0;
-    for _time in 0..times {
-        let mut d = start;
-        settle(used, &mut d);
-        sum ^= d.candidates(0);
-    }
-    sum
+    (start, rules)
 }
 
 fn settled_first(job: &[Step], places: &mut [SheetRule]) -> u64 {
@@ -102,84 +152,16 @@ fn settled_first(job: &[Step], places: &mut [SheetRule]) -> u64 {
     for step in job {
         let _ = call(&mut draft, step);
     }
-    match draft.settle().candidates(0) {
-        Ok(mask) => mask,
-        Err(_) => 0,
-    }
+    draft.settle().candidates(0).unwrap_or(0)
 }
 
 fn call(draft: &mut Draft<'_, SheetRule>, step: &Step) -> Result<(), Refusal> {
-    if let Some(rule) = rule_of(step) {
-        return draft.post(rule);
-    }
-    match step.op {
-        0 => draft.new(step.a, step.b, step.c, step.kinds),
-        1 => draft.limit(step.a, step.mask),
-        2 => draft.claim(step.a, step.mask),
-        3 => draft.bar(step.a, step.mask),
-        _ => Ok(()),
-    }
-}
-
-// What a step that is no rule makes of a box.
-fn entered(start: Domains, step: &Step) -> Domains {
-    let mut d = start;
-    match step.op {
-        0 => {
-            if let Ok(made) = Domains::new(step.a, step.b, step.c, u64::from(step.kinds)) {
-                d = made;
-            }
-        }
-        1 => {
-            d.limit(step.a, step.mask);
-        }
-        2 => {
-            d.claim(step.a, step.mask);
-        }
-        3 => {
-            d.bar(step.a, step.mask);
-        }
-        _ => {}
-    }
-    d
-}
-
-// The rule that a step posts.
-fn rule_of(step: &Step) -> Option<SheetRule> {
-    let Step {
-        mask,
-        op,
-        a,
-        b,
-        c,
-        ..
-    } = *step;
-    match op {
-        4 => Some(SheetRule::Range(Range {
-            g: mask,
-            s: a,
-            t: b,
-        })),
-        5 => Some(SheetRule::Roots(Roots {
-            g: mask,
-            s: a,
-            t: b,
-        })),
-        6 => Some(SheetRule::Within(Within { a, b })),
-        7 => Some(SheetRule::Apart(Apart { a, b })),
-        8 => Some(SheetRule::Count(Count {
-            a,
-            least: b,
-            most: c,
-        })),
-        9 => Some(SheetRule::Row(Row { a })),
-        _ => None,
-    }
-}
-
-fn number(answer: Result<(), Refusal>) -> u8 {
-    match answer {
-        Ok(()) => 0,
-        Err(refusal) => refusal.number(),
+    match Act::try_from(step) {
+        Ok(Act::New { n, m, k, kinds }) => draft.new(n, m, k, kinds),
+        Ok(Act::Limit { sensor, mask }) => draft.limit(sensor, mask),
+        Ok(Act::Claim { set, mask }) => draft.claim(set, mask),
+        Ok(Act::Bar { set, mask }) => draft.bar(set, mask),
+        Ok(Act::Post(rule)) => draft.post(rule),
+        Err(NoCall) => Ok(()),
     }
 }

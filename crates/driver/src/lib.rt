@@ -17,6 +17,7 @@ use planner::printing::print_sheet;
 use sets::row::Row;
 use text::listing;
 
+// A const cannot call `default`.
 const NO_RULES: [SheetRule; MOST_PLACES] = [SheetRule::Row(Row { a: 0 }); MOST_PLACES];
 
 // How many bytes the longest listing has.
@@ -28,26 +29,20 @@ pub fn slotplan_longest() -> usize
 
 // Loads a sheet file, settles it, and writes the listing, or the line of the refusal, at the front of the output; the text's length.
 // Where the output is too short, 0, and the output is left as it was. One of the longest listing's length never is.
+// A number, since C calls it.
 pub fn slotplan_print(file: &[u8], out: &mut [u8]) -> usize
     ensures printed { Exported (text_of file.now) result out.old out.new }
     ensures enough { length (text_of file.now) ≤ longest_listing }
 {
     let mut places = NO_RULES;
-    match print_sheet(file, &mut places, out) {
-        Ok(end) => end,
-        Err(_) => 0,
-    }
+    print_sheet(file, &mut places, out).unwrap_or(0)
 }
 
 // Loads and settles a sheet file so many times, for timing; the candidates that it leaves to sensor 0, none where it is refused, joined by exclusive or.
 pub fn slotplan_runs(file: &[u8], times: u32) -> u64
     ensures { result ≡ joined times (first_of file.now) }
 {
-    let mut sum = 0;
-    for _time in 0..times {
-        sum ^= first_left(file);
-    }
-    sum
+    (0..times).fold(0, |sum, _time| sum ^ first_left(file))
 }
 
 // Loads a sheet file so many times and settles it never, for timing; how many of the loads were accepted.
@@ -69,6 +64,7 @@ fn first_left(file: &[u8]) -> u64
 {
     let mut places = NO_RULES;
     let mut draft = Draft::begin(&mut places);
+    // a match, since a closure for `map_or` would have to take the draft
     match load(file, &mut draft) {
         Ok(()) => first_of(&draft.settle()),
         Err(_) => 0,
@@ -79,10 +75,7 @@ fn first_left(file: &[u8]) -> u64
 fn first_of(plan: &Settled<'_, SheetRule>) -> u64
     ensures { result ≡ cand (model plan.now.plan) 0 }
 {
-    match plan.candidates(0) {
-        Ok(left) => left,
-        Err(_) => 0,
-    }
+    plan.candidates(0).unwrap_or(0)
 }
 
 // Whether a file can be loaded.
@@ -91,8 +84,5 @@ fn is_loaded(file: &[u8]) -> bool
 {
     let mut places = NO_RULES;
     let mut draft = Draft::begin(&mut places);
-    match load(file, &mut draft) {
-        Ok(()) => true,
-        Err(_) => false,
-    }
+    load(file, &mut draft).is_ok()
 }

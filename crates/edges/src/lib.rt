@@ -22,7 +22,7 @@ mod tests {
 
     #[test]
     fn boards(rt: HostRuntime) {
-        let mut places = [ROW; 1];
+        let mut places = [SheetRule::default(); 1];
         let mut draft = Draft::begin(&mut places);
         assert_eq!(rt; draft.new(64, 64, 32, u32::MAX), Ok(()));
         assert_eq!(rt; draft.new(65, 64, 32, 0), Err(Refusal::Board));
@@ -36,7 +36,7 @@ mod tests {
 
     #[test]
     fn entries(rt: HostRuntime) {
-        let mut places = [ROW; 1];
+        let mut places = [SheetRule::default(); 1];
         let mut draft = Draft::begin(&mut places);
         assert_eq!(rt; draft.new(2, 3, 2, 0b10), Ok(()));
         assert_eq!(rt; draft.limit(2, 1), Err(Refusal::Sensor));
@@ -61,7 +61,7 @@ mod tests {
     // A dead draft takes entries and rules as any other, and stays dead.
     #[test]
     fn dead_draft(rt: HostRuntime) {
-        let mut places = [ROW; 1];
+        let mut places = [SheetRule::default(); 1];
         let mut draft = Draft::begin(&mut places);
         assert_eq!(rt; draft.new(2, 3, 1, 0), Ok(()));
         assert_eq!(rt; draft.limit(0, 0), Ok(()));
@@ -75,7 +75,7 @@ mod tests {
 
     #[test]
     fn rules(rt: HostRuntime) {
-        let mut places = [ROW; 300];
+        let mut places = [SheetRule::default(); 300];
         let mut draft = Draft::begin(&mut places);
         assert_eq!(rt; draft.new(2, 2, 3, 0b100), Ok(()));
         assert_eq!(rt;
@@ -119,7 +119,7 @@ mod tests {
     // A table holds no more rules than it has places.
     #[test]
     fn one_place(rt: HostRuntime) {
-        let mut places = [ROW; 1];
+        let mut places = [SheetRule::default(); 1];
         let mut draft = Draft::begin(&mut places);
         assert_eq!(rt; draft.new(2, 2, 1, 0), Ok(()));
         assert_eq!(rt; draft.post(ROW), Ok(()));
@@ -128,7 +128,7 @@ mod tests {
 
     #[test]
     fn short_output(rt: HostRuntime) {
-        let mut places = [ROW; 1];
+        let mut places = [SheetRule::default(); 1];
         let draft = Draft::begin(&mut places);
         let settled = draft.settle();
         let mut short = [7u8; 11];

@@ -4,14 +4,11 @@ use kinds::SheetRule;
 use named::groups::disjoint;
 use named::values::{all_different, n_value};
 use plan::draft::Draft;
-use sets::row::Row;
-
-const ROW: SheetRule = SheetRule::Row(Row { a: 0 });
 
 // No sensor at all differs from itself, and uses no slot.
 #[test]
 fn empty_groups(rt: HostRuntime) {
-    let mut places = [ROW; 16];
+    let mut places = [SheetRule::default(); 16];
     let mut draft = Draft::begin(&mut places);
     assert_eq!(rt; draft.new(2, 2, 4, 0b1010), Ok(()));
     assert_eq!(rt; all_different(&mut draft, 0, 0, 1), Ok(()));
@@ -26,7 +23,7 @@ fn empty_groups(rt: HostRuntime) {
 // Both rules need a place, and where they have not, neither is entered.
 #[test]
 fn all_or_nothing(rt: HostRuntime) {
-    let mut places = [ROW; 3];
+    let mut places = [SheetRule::default(); 3];
     let mut draft = Draft::begin(&mut places);
     assert_eq!(rt; draft.new(2, 2, 2, 0b10), Ok(()));
     assert_eq!(rt; all_different(&mut draft, 0b11, 0, 1), Ok(()));

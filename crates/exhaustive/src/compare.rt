@@ -8,39 +8,26 @@ use board::refusal::Refusal;
 use kinds::SheetRule;
 use roots::implication::Implication;
 use rule::Rule;
-use sets::row::Row;
 use settle::settle;
 
 // How many settles are tried on each box.
 const SETTLES: u8 = 6;
 
 // What was seen: boxes, those that were tried, comparisons, those that came out different, and the box of the first of them.
-#[derive(Clone, Copy)]
+#[derive(Clone, Copy, Default)]
 pub struct Tally {
     pub boxes: u64,
     pub tried: u64,
     pub comparisons: u64,
     pub differences: u64,
-    pub first: u64,
+    pub first: Option<u64>,
 }
 
 impl Tally {
-    pub fn new() -> Tally {
-        Tally {
-            boxes: 0,
-            tried: 0,
-            comparisons: 0,
-            differences: 0,
-            first: 0,
-        }
-    }
-
     fn note(&mut self, planned: &Small, enumerated: &Small) {
         self.comparisons = self.comparisons.saturating_add(1);
         if planned != enumerated {
-            if self.differences == 0 {
-                self.first = self.boxes;
-            }
+            self.first = self.first.or(Some(self.boxes));
             self.differences = self.differences.saturating_add(1);
         }
     }
@@ -137,7 +124,7 @@ impl<'a> Trial<'a> {
         let mut d = was;
         rule.narrow(&mut d);
         let planned = read(&d);
-        tally.note(&planned, &self.search.run(self.size.sensors, rule, b));
+        tally.note(&planned, &self.search.run(rule, b));
         if let SheetRule::Roots(_) = rule {
             self.roots_exact(rule, b, &planned, tally);
         }
@@ -172,7 +159,7 @@ impl<'a> Trial<'a> {
             ];
             let mut d = was;
             settle(&drawn, &mut d);
-            tally.note(&read(&d), &self.search.rest(self.size.sensors, &drawn, b));
+            tally.note(&read(&d), &self.search.rest(&drawn, b));
             seed = third;
         }
     }
@@ -186,7 +173,7 @@ fn next(seed: u64) -> u64 {
 
 fn pick(rules: &[SheetRule], random: u64) -> SheetRule {
     if rules.is_empty() {
-        return SheetRule::Row(Row { a: 0 });
+        return SheetRule::default();
     }
     rules[(random >> 33) as usize % rules.len()]
 }

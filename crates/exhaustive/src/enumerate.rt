@@ -12,10 +12,12 @@ const SLOTS: [u64; 3] = [0b001, 0b010, 0b100];
 // A box has at most 9 candidates and 12 members to lose or gain, so it comes to rest in fewer rounds.
 const MOST_ROUNDS: u8 = 24;
 
-// A forgetful enumeration passes over the layouts whose first set is empty: it shows that a difference is seen.
+// An enumeration for boards of so many sensors.
 #[derive(Clone, Copy)]
 pub struct Enumeration {
-    pub forgetful: bool,
+    pub sensors: u8,
+    // The first mask that the first set is given. From 1 on the layouts where it is empty are forgotten: it shows that a difference is seen.
+    pub first: u64,
 }
 
 impl Enumeration {
@@ -37,8 +39,7 @@ impl Enumeration {
 
     // Adds the layouts with these slots.
     fn add_sets<R: Relation>(self, rule: &R, b: &Small, slots: [u64; 3], hull: &mut Small) {
-        let first = if self.forgetful { 1 } else { 0 };
-        for s in first..8 {
+        for s in self.first..8 {
             if is_in(b.lo[0], s) && is_in(s, b.hi[0]) {
                 for t in 0..8 {
                     if is_in(b.lo[1], t) && is_in(t, b.hi[1]) {
@@ -56,24 +57,16 @@ impl Enumeration {
     }
 
     // The run of a rule: its tight box; for Roots those of its implications, brought to rest.
-    pub fn run(self, sensors: u8, rule: &SheetRule, b: &Small) -> Small {
-        let SheetRule::Roots(r) = *rule else {
-            return self.tight(rule, b);
-        };
-        let mut at = *b;
-        for _ in 0..MOST_ROUNDS {
-            let next = self.round_of_parts(sensors, r, at);
-            if next == at {
-                return at;
-            }
-            at = next;
+    pub fn run(self, rule: &SheetRule, b: &Small) -> Small {
+        match *rule {
+            SheetRule::Roots(r) => at_rest(b, |at| self.round_of_parts(r, at)),
+            _ => self.tight(rule, b),
         }
-        at
     }
 
-    fn round_of_parts(self, sensors: u8, r: Roots, b: Small) -> Small {
+    fn round_of_parts(self, r: Roots, b: Small) -> Small {
         let mut at = b;
-        for sensor in 0..sensors {
+        for sensor in 0..self.sensors {
             let (s, t) = (r.s, r.t);
             if meets(r.g, only(sensor)) {
                 at = self.tight(&Implication::Implies { sensor, s, t }, &at);
@@ -86,19 +79,32 @@ impl Enumeration {
     }
 
     // The runs of the rules in turn, until nothing changes.
-    pub fn rest(self, sensors: u8, rules: &[SheetRule], b: &Small) -> Small {
-        let mut at = *b;
-        for _ in 0..MOST_ROUNDS {
-            let was = at;
-            for rule in rules {
-                at = self.run(sensors, rule, &at);
-            }
-            if at == was {
-                return at;
-            }
+    pub fn rest(self, rules: &[SheetRule], b: &Small) -> Small {
+        at_rest(b, |at| self.round_of_rules(rules, at))
+    }
+
+    fn round_of_rules(self, rules: &[SheetRule], b: Small) -> Small {
+        let mut at = b;
+        for rule in rules {
+            at = self.run(rule, &at);
         }
         at
     }
+}
+
+// The box after rounds until one changes nothing.
+fn at_rest<F: Fn(Small) -> Small>(b: &Small, round: F) -> Small
+    requires { F.IsAlwaysCallable round }
+{
+    let mut at = *b;
+    for _ in 0..MOST_ROUNDS {
+        let next = round(at);
+        if next == at {
+            return at;
+        }
+        at = next;
+    }
+    at
 }
 
 // Whether these slots are candidates.
@@ -108,11 +114,13 @@ fn is_open(b: &Small, slots: &[u64; 3]) -> bool {
 
 // Adds a layout to a hull.
 fn add(hull: &mut Small, x: &Layout) {
-    for i in 0..3 {
-        hull.cands[i] |= x.slots[i];
+    for (cands, slot) in hull.cands.iter_mut().zip(x.slots) {
+        *cands |= slot;
     }
-    for j in 0..2 {
-        hull.lo[j] &= x.sets[j];
-        hull.hi[j] |= x.sets[j];
+    for (lo, members) in hull.lo.iter_mut().zip(x.sets) {
+        *lo &= members;
+    }
+    for (hi, members) in hull.hi.iter_mut().zip(x.sets) {
+        *hi |= members;
     }
 }

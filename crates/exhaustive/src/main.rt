@@ -9,7 +9,7 @@ mod reads;
 mod relations;
 mod small;
 
-use anyhow::anyhow;
+use anyhow::Context;
 use compare::{Tally, Trial};
 use enumerate::Enumeration;
 use laws::{parts, rules};
@@ -27,7 +27,7 @@ fn main(rt: HostRuntime) -> anyhow::Result<()> {
                     slots,
                     kinds,
                 };
-                try_board(&rt, size, false)?;
+                try_board(&rt, size, 0)?;
             }
         }
     }
@@ -39,10 +39,10 @@ fn main(rt: HostRuntime) -> anyhow::Result<()> {
         slots: 2,
         kinds: 0b10,
     };
-    try_board(&rt, size, true)
+    try_board(&rt, size, 1)
 }
 
-fn try_board(rt: &HostRuntime, size: Size, forgetful: bool) -> anyhow::Result<()> {
+fn try_board(rt: &HostRuntime, size: Size, first: u64) -> anyhow::Result<()> {
     let rules = rules(rt.alloc(), size)?;
     let parts = parts(rt.alloc(), size)?;
     let trial = Trial {
@@ -54,12 +54,13 @@ fn try_board(rt: &HostRuntime, size: Size, forgetful: bool) -> anyhow::Result<()
         } else {
             1
         },
-        search: Enumeration { forgetful },
+        search: Enumeration {
+            sensors: size.sensors,
+            first,
+        },
     };
-    let mut tally = Tally::new();
-    if trial.all_boxes(&mut tally).is_err() {
-        return Err(anyhow!("no such board"));
-    }
+    let mut tally = Tally::default();
+    trial.all_boxes(&mut tally).context("no such board")?;
     tell(rt, size, tally)
 }
 
@@ -75,8 +76,7 @@ fn tell(rt: &HostRuntime, size: Size, tally: Tally) -> anyhow::Result<()> {
     println!(rt;
         "{n} by {m}, {sets}: {tried} of {boxes} boxes, {comparisons} comparisons, {differences} differences"
     )?;
-    if differences > 0 {
-        let first = tally.first;
+    if let Some(first) = tally.first {
         println!(rt; "  the first at box {first}")?;
     }
     Ok(())

@@ -4,7 +4,7 @@ ghost use Rattle.exhaustive.specs.Small.{single, meeting, inside, slot_at, set_a
 
 use crate::small::{Layout, Size};
 
-// The mask of one number below three.
+// The mask of one number below three. Masks are read anew here, apart from the planner's.
 pub fn only(i: u8) -> u64
     ensures { result ≡ single i }
 {

@@ -16,7 +16,7 @@ pub struct Layout {
     pub sets: [u64; 2],
 }
 
-// The candidates of each sensor and the bounds of each set.
+// The candidates of each sensor and the bounds of each set: lower and upper bounds apart, as the planner's box has them.
 #[derive(Clone, Copy, PartialEq, Eq)]
 pub struct Small {
     pub cands: [u64; 3],

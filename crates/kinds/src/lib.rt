@@ -1,5 +1,6 @@
 #![tactic(auto)]
 
+ghost use Rattle.std.specs.Prelude.{◌≡◌};
 ghost use Rattle.kinds.specs.SheetRules.{sheet_fault, sheet_holds, sheet_run};
 ghost use Rattle.kinds.specs.SheetLaws.{sheet_lawful, sheet_restful};
 
@@ -13,7 +14,7 @@ use sets::count::Count;
 use sets::row::Row;
 use sets::within::Within;
 
-// A rule of a sheet: one of the kinds, and a kind itself.
+// A rule of a sheet: one of the kinds, and a kind itself. An enum and no `dyn`, since there is no heap and the kinds are these six.
 #[derive(Clone, Copy)]
 pub enum SheetRule {
     Range(Range),
@@ -22,6 +23,17 @@ pub enum SheetRule {
     Apart(Apart),
     Count(Count),
     Row(Row),
+}
+
+// What a list of rules has at a place that is not used.
+impl Default for SheetRule {
+    ghost use Rattle.kinds.specs.declared.SheetRule.TheVariants as kind;
+
+    ghost is_default = { λ r. r ≡ kind.Row (record { a = 0 }) };
+
+    fn default() -> SheetRule {
+        SheetRule::Row(Row { a: 0 })
+    }
 }
 
 impl Rule for SheetRule {
@@ -46,6 +58,7 @@ impl Rule for SheetRule {
         }
     }
 
+    #[tactic(auto, unfolding(model::specs::Laws::asked))]
     fn narrow(&self, d: &mut Domains) -> bool {
         match self {
             SheetRule::Range(r) => r.narrow(d),

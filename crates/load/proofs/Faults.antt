@@ -63,11 +63,6 @@ closing-stop : (s : State SheetRule) (e at : ℕ) → closing s (stop e at) ≡ 
 unfolding closing
 closing-stop s e at = refl
 
-told_at : (at : ℕ) (t : Result (Option (Rec × ℕ)) ℕ) (f : ℕ × ℕ) → Err f ≡ told at t → f.1 ≡ at
-told_at at (Ok None) f h = absurd (let z : ◌≡◌ {A = ℕ} 0 1 = cc in omega arith)
-told_at at (Ok (Some p)) f h = absurd (let z : ◌≡◌ {A = ℕ} 0 1 = cc in omega arith)
-told_at at (Err e) f h = let q : f ≡ (e, at) = cc in ap (λ (p : ℕ × ℕ). p.1) q
-
 -- The head.
 
 never : {X : Type 0} → false ≡ true → X
@@ -251,8 +246,8 @@ module _ (s : State SheetRule) (x y : Reader) (m : Moved x y) where
   pub here_end : Ok None ≡ told x.at (turned x) → first_fault s (walks_on x) ≡ None
   here_end v = ap (first_fault s) (walked x y (Ok None) v m) ∙ fault-end s
 
-  pub here-stop : (f : ℕ × ℕ) → Err f ≡ told x.at (turned x) → first_fault s (walks_on x) ≡ Some (f.0, x.at)
-  here-stop f v = ap (first_fault s) (walked x y (Err f) v m) ∙ fault-stop s f.0 f.1 ∙ ap (λ (p : ℕ). Some (f.0, p)) (told_at x.at (turned x) f v)
+  pub here-stop : (f : ℕ × ℕ) → Err f ≡ told x.at (turned x) → first_fault s (walks_on x) ≡ Some (f.0, f.1)
+  here-stop f v = ap (first_fault s) (walked x y (Err f) v m) ∙ fault-stop s f.0 f.1
 
   pub here_on : (r : Rec) → Ok (Some r) ≡ told x.at (turned x) → verdict (act_of_lem r) s ≡ 0 → first_fault s (walks_on x) ≡ first_fault (taken (act_of_lem r) s) (walks_on y)
   here_on r v z = ap (first_fault s) (walked x y (Ok (Some r)) v m) ∙ fault-on s x.at r (walks_on y) z

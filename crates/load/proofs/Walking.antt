@@ -1,13 +1,11 @@
 -- Walks over a file: steps enough, one step at a time, and the records of a walk.
-use Rattle.std.proofs.Common.{◌≡◌, ℕ, zero, suc, ◌+◌, ◌<◌, ◌≤◌, Bool, true, false, List, length, drop, Some, None, Ok, Err, Option, Result, sym, refl, ap, ◌∙◌, arith, length-drop}
-use Rattle.std.proofs.lemmas.Bool.Decides.{nat_tests}
+use Rattle.std.proofs.Common.{◌≡◌, ℕ, zero, suc, ◌+◌, ◌<◌, Bool, true, false, List, length, drop, Some, None, Ok, Err, Option, Result, sym, refl, ap, ◌∙◌, arith}
 use Rattle.sheet.specs.declared.reader.Reader.{Reader}
-use Rattle.sheet.specs.Layout.{Rec, longest}
-use Rattle.sheet.specs.Steps.{opens, turn, told, onward, started, turned, Moved}
+use Rattle.sheet.specs.Layout.{Rec}
+use Rattle.sheet.specs.Steps.{turn, told, onward, started, begun_at, turned, Moved}
 use Rattle.sheet.specs.Files.{before, follow, read_from, read_on}
-use Rattle.sheet.proofs.Records.{found}
-use Rattle.sheet.proofs.Whole.{shorter, turn-some}
-use Rattle.load.specs.Walks.{Walk, goes, walk_from, walk_on, walks_on, records_of, then_walk, InFile}
+use Rattle.sheet.proofs.Whole.{shorter}
+use Rattle.load.specs.Walks.{Walk, goes, walk_from, walk_on, walks_on, records_of, then_walk}
 
 goes_same : (t : Result (Option (Rec × ℕ)) ℕ) (at : ℕ) (f g : ℕ → Walk) → ((p : Rec × ℕ) → t ≡ Ok (Some p) → f (at + p.1) ≡ g (at + p.1)) → goes t at f ≡ goes t at g
 goes_same (Ok None) at f g h = refl
@@ -36,34 +34,12 @@ goes-told file at next begun (Err x) e = refl
 
 pub walked : (x y : Reader) (a : Result (Option Rec) (ℕ × ℕ)) → a ≡ told x.at (turned x) → Moved x y → walks_on x ≡ then_walk a x.at (walks_on y)
 walked x y a e m =
-    steps x.file.now x.at x.begun ∙ goes-told x.file.now x.at y.at x.begun (turned x) m.at
-    ∙ ap (λ b. then_walk (told x.at (turned x)) x.at (walk_on x.file.now y.at b)) (sym m.begun) ∙ ap (λ f. then_walk (told x.at (turned x)) x.at (walk_on f y.at y.begun)) (sym m.file) ∙ ap (λ u. then_walk u x.at (walks_on y)) (sym e)
-
--- a reader stays in its file
-onward-in : (file : List ℕ) (at : ℕ) (begun : Bool) (t : Result (Option (Rec × ℕ)) ℕ) → turn begun (drop at file) ≡ t → at ≤ length file → onward at t ≤ length file
-onward-in file at begun (Ok None) h l = l
-onward-in file at begun (Ok (Some p)) h l =
-    let f = found (drop at file) p.0 p.1 (turn-some begun (drop at file) p h).0 in
-    omega (arith, f.room, f.size, length-drop at file)
-onward-in file at begun (Err e) h l = l
-
-pub stays-in : (x y : Reader) → Moved x y → InFile x → InFile y
-stays-in x y m i =
-    let q : length y.file.now ≡ length x.file.now = ap length m.file in
-    let o = onward-in x.file.now x.at x.begun (turned x) refl i.place in
-    record { place = omega (arith, q, o, m.at); size = omega (arith, q, i.size) }
+    steps x.file.now x.at (begun_at x.at) ∙ goes-told x.file.now x.at y.at (begun_at x.at) (turned x) m.at
+    ∙ ap (λ b. then_walk (told x.at (turned x)) x.at (walk_on x.file.now y.at b)) (sym m.begun) ∙ ap (λ f. then_walk (told x.at (turned x)) x.at (walk_on f y.at (begun_at y.at))) (sym m.file) ∙ ap (λ u. then_walk u x.at (walks_on y)) (sym e)
 
 -- a reader just opened
-module _ (file : List ℕ) (x : Reader) where
-  pub opened : x.file.now ≡ file → x.at ≡ 1 → x.begun ≡ false → walks_on x ≡ walk_on file 1 false
-  opened f a b = cc
-
-  pub opened_in : opens file ≡ true → x.file.now ≡ file → x.at ≡ 1 → InFile x
-  opened_in o f a =
-      let l : 0 < length file = grind (arith, nat_tests) in
-      let m : length file ≤ longest = grind (arith, nat_tests) in
-      let q : length x.file.now ≡ length file = ap length f in
-      record { place = omega arith; size = omega arith }
+pub opened : (file : List ℕ) (x : Reader) → x.file.now ≡ file → x.at ≡ 1 → walks_on x ≡ walk_on file 1 false
+opened file x f a = cc
 
 -- reading gives the records of the walk
 follow-goes : (t : Result (Option (Rec × ℕ)) ℕ) (at : ℕ) (f : ℕ → Result (List Rec) (ℕ × ℕ)) (g : ℕ → Walk) → ((i : ℕ) → f i ≡ records_of (g i)) → follow t at f ≡ records_of (goes t at g)

@@ -5,16 +5,17 @@ use Rattle.model.specs.Box.{full}
 use Rattle.model.specs.Refusals.{refusal}
 use Rattle.model.specs.Calls.{State, draft, new_causes, settle, does, after}
 use Rattle.board.specs.Model.{board}
-use Rattle.plan.specs.declared.draft.Draft.{Draft}
-use Rattle.plan.specs.States.{state}
 use Rattle.text.specs.Lines.{listing, refused_line}
 use Rattle.kinds.specs.declared.SheetRule.{SheetRule}
 use Rattle.kinds.specs.SheetRules.{sheet_fault, sheet_run}
 use Rattle.sheet.specs.Layout.{Rec, head}
-use Rattle.sheet.specs.Steps.{opens}
+use Rattle.sheet.specs.Steps.{opens, number as sheet_number}
+use Rattle.board.specs.Numbers.{number as plan_number}
 use Rattle.sheet.specs.Files.{read_all}
 use Rattle.load.specs.declared.check.Sketch.{Sketch}
-use Rattle.load.specs.declared.load.LoadFault.{LoadFault}
+use Rattle.load.specs.declared.fault.LoadCause.{LoadCause}
+use Rattle.load.specs.declared.fault.LoadCause.TheVariants as cause
+use Rattle.load.specs.declared.fault.LoadFault.{LoadFault}
 use Rattle.load.specs.Acts.{act_of_lem, verdict, taken, calls_of, Unrefused}
 use Rattle.load.specs.Walks.{Walk, end, stop, step, walk_on}
 
@@ -64,14 +65,15 @@ text_of s (Some f) = refused_line f.0 f.1
 abbrev pub sheet_text : List ℕ → ℕ → List ℕ
 sheet_text file places = text_of (does sheet_fault sheet_run settle (load_plan file places)) (load_fault file places)
 
+-- the number of each refusal
+abbrev pub cause_number : LoadCause → ℕ
+cause_number (cause.Sheet c) = sheet_number c
+cause_number (cause.Plan r) = plan_number r
+
 -- an answer of the code, as a number and a position
 abbrev pub fault_of : {X : Type 0} → Result X LoadFault → Option (ℕ × ℕ)
 fault_of (Ok x) = None
-fault_of (Err f) = Some (f.number, f.position)
-
--- the plan of a draft
-abbrev pub state_of : Draft SheetRule → State SheetRule
-state_of x = state x.plan x.places.now x.count false
+fault_of (Err f) = Some (cause_number f.cause, f.position)
 
 -- what the check keeps of a plan: its board, and how many places and rules it has
 pub record Stands (s : State SheetRule) (t : Sketch) : Type 0 where

@@ -1,8 +1,8 @@
 -- The records of a file with their positions, up to the first that the reader refuses. Assumes nothing.
-use Rattle.std.specs.Prelude.{ℕ, zero, suc, ◌+◌, ◌≤◌, Bool, true, List, [], length, drop, Some, None, Ok, Err, Option, Result}
+use Rattle.std.specs.Prelude.{ℕ, zero, suc, ◌+◌, Bool, true, List, [], length, drop, Some, None, Ok, Err, Option, Result}
 use Rattle.sheet.specs.declared.reader.Reader.{Reader}
-use Rattle.sheet.specs.Layout.{Rec, longest}
-use Rattle.sheet.specs.Steps.{turn}
+use Rattle.sheet.specs.Layout.{Rec}
+use Rattle.sheet.specs.Steps.{turn, begun_at}
 use Rattle.sheet.specs.Files.{before}
 
 -- the file's end; a refusal of the reader, its number and position; or a record at a position, and what follows
@@ -28,7 +28,7 @@ walk_on file at begun = walk_from (suc (length (drop at file))) file at begun
 
 -- what a reader has still to read
 abbrev pub walks_on : Reader → Walk
-walks_on x = walk_on x.file.now x.at x.begun
+walks_on x = walk_on x.file.now x.at (begun_at x.at)
 
 -- the records of a walk, or the refusal
 abbrev pub records_of : Walk → Result (List Rec) (ℕ × ℕ)
@@ -41,8 +41,3 @@ abbrev pub then_walk : Result (Option Rec) (ℕ × ℕ) → ℕ → Walk → Wal
 then_walk (Ok None) at w = end
 then_walk (Ok (Some r)) at w = step at r w
 then_walk (Err f) at w = stop f.0 f.1
-
--- the reader stands in a file that is not too long
-pub record InFile (x : Reader) : Type 0 where
-  pub place : x.at ≤ length x.file.now
-  pub size : length x.file.now ≤ longest

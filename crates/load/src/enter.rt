@@ -2,16 +2,18 @@
 ghost use Rattle.std.specs.Prelude.{◌≡◌, None};
 ghost use Rattle.load.specs.Acts.{verdict, taken};
 ghost use Rattle.load.specs.Walks.{walks_on};
-ghost use Rattle.load.specs.Loads.{first_fault, closing, state_of};
+ghost use Rattle.plan.specs.States.{SameLoan, state_of};
+ghost use Rattle.load.specs.Loads.{first_fault, closing};
 
-use crate::act::{Act, act_of};
+use crate::act::Act;
 use board::refusal::Refusal;
 use kinds::SheetRule;
 use plan::draft::Draft;
 use sheet::Reader;
 
+#[tactic(auto, unfolding(crate::specs::Acts::verdict, crate::specs::Acts::taken))]
 fn enter(act: Act, draft: &mut Draft<'_, SheetRule>) -> Result<(), Refusal>
-    ensures lent { draft.new.places.ghost_name ≡ draft.old.places.ghost_name }
+    ensures lent { SameLoan draft.old draft.new }
     ensures plan { verdict act (state_of draft.old) ≡ 0 → state_of draft.new ≡ taken act (state_of draft.old) }
 {
     match act {
@@ -26,13 +28,10 @@ fn enter(act: Act, draft: &mut Draft<'_, SheetRule>) -> Result<(), Refusal>
 
 /// Enters the records that a reader has still to read.
 pub(crate) fn enter_records(mut reader: Reader<'_>, draft: &mut Draft<'_, SheetRule>)
-    ensures lent { draft.new.places.ghost_name ≡ draft.old.places.ghost_name }
+    ensures lent { SameLoan draft.old draft.new }
     ensures plan { first_fault (state_of draft.old) (walks_on reader.entry) ≡ None → state_of draft.new ≡ closing (state_of draft.old) (walks_on reader.entry) }
 {
-    while let Ok(next) = reader.next() {
-        let Some(one) = next else {
-            return;
-        };
-        let _ = enter(act_of(one), draft);
+    while let Ok(Some(one)) = reader.next() {
+        let _ = enter(Act::from(one), draft);
     }
 }

@@ -4,4 +4,5 @@
 mod act;
 mod check;
 mod enter;
+mod fault;
 pub mod load;

@@ -3,4 +3,5 @@ pub mod Subsets
 pub mod Counts
 pub mod Ends
 pub mod Sizes
+pub mod Partings
 pub mod Laws

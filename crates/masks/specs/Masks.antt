@@ -36,6 +36,12 @@ abbrev pub tally : (ℕ → Bool) → ℕ → ℕ
 tally p zero = 0
 tally p (suc k) = cond (p k) 1 0 + tally p k
 
+-- a member i of a mask, and the others
+pub record Parted (mask i rest : ℕ) : Type 0 where
+  pub low : i < 64
+  pub member : has mask i ≡ true
+  pub others : rest ≡ without mask (2 ^ i)
+
 -- what is proved of masks
 pub record Masks : Type 0 where
   -- membership, operation by operation

@@ -3,12 +3,12 @@
 ghost use Rattle.std.specs.Prelude.{◌≡◌, ◌^◌, ◌==◌, count_ones, nat_lt};
 ghost use Rattle.masks.specs.Masks.{Masks, has, without, within, numbers, lowest as least_of, past as past_of, stretch as stretch_of};
 
+pub mod iter;
+
 // The laws of masks as finite sets hold.
-pub fn masks_stand() -> u8
+pub fn masks_stand()
     ensures { Masks }
-{
-    0
-}
+{}
 
 // Whether number i is a member.
 pub fn contains(mask: u64, i: u8) -> bool
@@ -71,4 +71,11 @@ pub fn stretch(start: u8, end: u8) -> u64
     ensures { result ≡ stretch_of start end }
 {
     take_out(all_below(end), all_below(start))
+}
+
+// The members, rising, for a `for`.
+pub fn members(mask: u64) -> iter::Members
+    ensures { result.left ≡ mask }
+{
+    iter::Members { left: mask }
 }

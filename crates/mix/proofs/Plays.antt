@@ -1,5 +1,5 @@
 -- The loop that plays a list of steps. Assumes nothing.
-use Rattle.std.proofs.Common.{◌≡◌, ℕ, zero, suc, ◌+◌, ◌<◌, ◌≤◌, Bool, List, [], ◌∷◌, ◌++◌, length, get_or, take, set, sym, refl, ap, ◌∙◌, ap₂, inl, inr, append_assoc, append-nil, arith, length-set, take_all, get_or-set_other, get_or-set_same}
+use Rattle.std.proofs.Common.{◌≡◌, ℕ, zero, suc, ◌+◌, ◌<◌, Bool, List, [], ◌∷◌, ◌++◌, length, get_or, take, set, sym, refl, ap, ◌∙◌, ap₂, inl, inr, append_assoc, append-nil, arith, length-set, take_all, get_or-set_other, get_or-set_same}
 use Rattle.std.proofs.lemmas.Bool.{cases_eq}
 use Rattle.std.proofs.lemmas.List.{take_more}
 use Rattle.model.specs.Board.{Board}
@@ -7,7 +7,7 @@ use Rattle.model.specs.Box.{Box}
 use Rattle.model.specs.Calls.{Call, State, after, does}
 use Rattle.model.specs.Layout.{Layout}
 use Rattle.model.proofs.Mixes.{after-board}
-use Rattle.mix.specs.Played.{Answered, answer_of, answers_all, calls_all, calls_of}
+use Rattle.mix.specs.Played.{answer_of, answers_all, calls_all, calls_of}
 use Rattle.plan.specs.Trust.{Leads, begun}
 use Rattle.plan.proofs.Trusting.{after-places}
 use Rattle.mix.specs.declared.Step.{Step}
@@ -46,25 +46,17 @@ module _ {R : Type 0} (fault : Board → R → ℕ) (run : Board → R → Box �
         p ∙ ap (after fault run (calls_of x)) w.plan ∙ sym (after-append fault run (calls_all (take i xs)) (calls_of x) s)
         ∙ ap (λ c. after fault run c s) (sym (calls-push (take i xs) x) ∙ ap calls_all (ap (λ y. take i xs ++ (y ∷ [])) e ∙ sym (take_more xs i x h)))
 
-    -- with a place for the answer, and without
-    pub one_written : (a : ℕ) → a ≡ answer_of fault run x t → i < length given → SoFar xs s (i + 1) t' (set given i a)
-    one_written a q l = record {
+    pub one_more : (a : ℕ) → a ≡ answer_of fault run x t → SoFar xs s (i + 1) t' (set given i a)
+    one_more a q = record {
       plan = plan-more;
       answered = λ k r m. elim (cases_eq k i) [
-        | inl z ↦ ap (λ n. get_or (set given i a) n 0) z ∙ get_or-set_same given i a 0 l ∙ q ∙ ap (answer_of fault run x) w.plan ∙ sym (answer_at xs s i x h e) ∙ ap (λ n. get_or (answers_all fault run xs s) n 0) (sym z)
+        | inl z ↦ ap (λ n. get_or (set given i a) n 0) z ∙ get_or-set_same given i a 0 (omega (arith, length-set given i a)) ∙ q ∙ ap (answer_of fault run x) w.plan ∙ sym (answer_at xs s i x h e) ∙ ap (λ n. get_or (answers_all fault run xs s) n 0) (sym z)
         | inr z ↦ get_or-set_other given i k a 0 z ∙ w.answered k (omega arith) (omega (arith, length-set given i a))
       ];
     }
 
-    pub one-dropped : length given ≤ i → SoFar xs s (i + 1) t' given
-    one-dropped l = record { plan = plan-more; answered = λ k r m. w.answered k (omega arith) m }
-
-  pub all-played : (xs : List (Step R)) (s : State R) (i : ℕ) (t : State R) (given : List ℕ) → i ≡ length xs → SoFar xs s i t given
-      → (t ≡ after fault run (calls_all xs) s) × Answered fault run xs s given
-  all-played xs s i t given e w = (
-    w.plan ∙ ap (λ z. after fault run (calls_all z) s) (take_all i xs (omega arith)),
-    λ k h l. w.answered k (omega arith) l,
-  )
+  pub all-played : (xs : List (Step R)) (s : State R) (i : ℕ) (t : State R) (given : List ℕ) → i ≡ length xs → SoFar xs s i t given → t ≡ after fault run (calls_all xs) s
+  all-played xs s i t given e w = w.plan ∙ ap (λ z. after fault run (calls_all z) s) (take_all i xs (omega arith))
 
   -- a mix that led to the plan before leads with these calls to the plan after
   pub leads-on : (holds : Board → R → Layout → Bool) (h g : List (Call R)) (s t : State R) → t ≡ after fault run g s → Leads fault holds run h s → Leads fault holds run (h ++ g) t

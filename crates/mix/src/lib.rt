@@ -1,10 +1,10 @@
 //! Any mix of calls on a draft, played from a list.
 #![tactic(auto)]
 
-ghost use Rattle.std.specs.Prelude.{◌≡◌, ℕ, ◌<◌, false, List, ◌++◌, length};
+ghost use Rattle.std.specs.Prelude.{◌≡◌, ℕ, ◌<◌, false, List, ◌++◌, length, map, slice_set};
 ghost use Rattle.model.specs.Calls.{Call, after};
 ghost use Rattle.board.specs.Numbers.{outcome};
-ghost use Rattle.plan.specs.States.{state};
+ghost use Rattle.plan.specs.States.{SameLoan, state_of};
 ghost use Rattle.plan.specs.Trust.{Leads};
 ghost use Rattle.mix.specs.Played.{calls_of, calls_all, answer_of, Answered};
 
@@ -13,6 +13,7 @@ use plan::draft::Draft;
 use rule::Rule;
 
 // One step of a mix of calls on a draft. Settle is a settle and a reopen.
+// A list of its own beside the acts of a file: a mix settles, a file names sensors.
 #[derive(Clone, Copy)]
 pub enum Step<R> {
     Limit { sensor: u8, mask: u64 },
@@ -22,54 +23,55 @@ pub enum Step<R> {
     Settle,
 }
 
-// Makes the calls of the steps one after the other, and gives the answers one for one: 0, or the number of the refusal.
+// Makes the calls of the steps one after the other, and gives the answers one for one.
 // If a mix of calls led to the draft, that mix and these calls lead to the one that is given back, so that settling it keeps every promise on mixes.
 pub fn play<'a, R: Rule + Copy>(
     draft: Draft<'a, R>,
     steps: &[Step<R>],
-    answers: &mut [u8],
+    answers: &mut [Result<(), Refusal>],
 ) -> Draft<'a, R>
-    ensures lent { result.places.ghost_name ≡ draft.entry.places.ghost_name }
-    ensures plan { state result.plan result.places.now result.count false ≡ after R.fault R.run (calls_all steps.now) (state draft.entry.plan draft.entry.places.now draft.entry.count false) }
-    ensures answered { Answered R.fault R.run steps.now (state draft.entry.plan draft.entry.places.now draft.entry.count false) answers.new }
-    ensures leads { (h : List (Call R)) → Leads R.fault R.holds R.run h (state draft.entry.plan draft.entry.places.now draft.entry.count false) → Leads R.fault R.holds R.run (h ++ calls_all steps.now) (state result.plan result.places.now result.count false) }
+    ensures lent { SameLoan draft.entry result }
+    ensures plan { state_of result ≡ after R.fault R.run (calls_all steps.now) (state_of draft.entry) }
+    ensures answered { Answered R.fault R.run steps.now (state_of draft.entry) (map outcome answers.new) }
+    ensures leads { (h : List (Call R)) → Leads R.fault R.holds R.run h (state_of draft.entry) → Leads R.fault R.holds R.run (h ++ calls_all steps.now) (state_of result) }
 {
     let mut held = draft;
-    for i in 0..steps.len() {
-        let mut answer = 0;
-        held = act(held, &steps[i], &mut answer);
-        if i < answers.len() {
-            answers[i] = answer;
-        }
+    for (i, step) in steps.iter().enumerate() {
+        let mut answer = Ok(());
+        held = act(held, step, &mut answer);
+        write(answers, i, answer);
     }
     held
 }
 
-// One step.
-fn act<'a, R: Rule + Copy>(draft: Draft<'a, R>, step: &Step<R>, answer: &mut u8) -> Draft<'a, R>
-    ensures lent { result.places.ghost_name ≡ draft.entry.places.ghost_name }
-    ensures plan { state result.plan result.places.now result.count false ≡ after R.fault R.run (calls_of step.now) (state draft.entry.plan draft.entry.places.now draft.entry.count false) }
-    ensures answer { answer.new ≡ answer_of R.fault R.run step.now (state draft.entry.plan draft.entry.places.now draft.entry.count false) }
+// Writes an answer, where there is a place for it. By its index: what `get_mut` ensures says nothing of the slice after a write.
+fn write(answers: &mut [Result<(), Refusal>], i: usize, answer: Result<(), Refusal>)
+    ensures { answers.new ≡ slice_set answers.old i answer }
 {
-    let mut draft = draft;
-    match *step {
-        Step::Limit { sensor, mask } => *answer = told(draft.limit(sensor, mask)),
-        Step::Claim { set, mask } => *answer = told(draft.claim(set, mask)),
-        Step::Bar { set, mask } => *answer = told(draft.bar(set, mask)),
-        Step::Post(rule) => *answer = told(draft.post(rule)),
-        Step::Settle => {
-            *answer = 0;
-            return draft.settle().reopen();
-        }
+    if i < answers.len() {
+        answers[i] = answer;
     }
-    draft
 }
 
-fn told(answer: Result<(), Refusal>) -> u8
-    ensures { result ≡ outcome answer }
+// One step. The answer has a place of its own: the borrow checker does not cover a pair with a draft in it.
+fn act<'a, R: Rule + Copy>(
+    mut draft: Draft<'a, R>,
+    step: &Step<R>,
+    answer: &mut Result<(), Refusal>,
+) -> Draft<'a, R>
+    ensures lent { SameLoan draft.entry result }
+    ensures plan { state_of result ≡ after R.fault R.run (calls_of step.now) (state_of draft.entry) }
+    ensures answer { outcome answer.new ≡ answer_of R.fault R.run step.now (state_of draft.entry) }
 {
-    match answer {
-        Ok(()) => 0,
-        Err(refusal) => refusal.number(),
-    }
+    *answer = match *step {
+        Step::Limit { sensor, mask } => draft.limit(sensor, mask),
+        Step::Claim { set, mask } => draft.claim(set, mask),
+        Step::Bar { set, mask } => draft.bar(set, mask),
+        Step::Post(rule) => draft.post(rule),
+        Step::Settle => {
+            draft = draft.settle().reopen();
+            Ok(())
+        }
+    };
+    draft
 }

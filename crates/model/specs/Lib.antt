@@ -6,5 +6,6 @@ pub mod Tight
 pub mod Laws
 pub mod Settled
 pub mod Refusals
+pub mod Fits
 pub mod Entries
 pub mod Calls

@@ -1,7 +1,6 @@
 -- Where no cause is there, each part is accepted. Assumes nothing.
 use Rattle.std.proofs.Common.{◌≡◌, ℕ, suc, ◌^◌, ◌<◌, ◌≤◌, min, true, false, cond, ◌||◌, eqb, ltb, leb, List, [], ◌∷◌, ◌++◌, length, sym, refl, ap, ◌∙◌, ap₂, arith, length-append, pow_pos, pow_mono}
-use lib.Count.{ones}
-use Rattle.std.proofs.lemmas.Bool.{not-false, ltb-false, eqb-false, le-ltb, lt-leb, eq-eqb, ne_eqb, or_parts, or_from, not_from_true, cond-true, cond-false}
+use Rattle.std.proofs.lemmas.Bool.{not-false, ltb-false, eqb-false, lt-leb, eq-eqb, ne_eqb, or_parts, not_from_true, cond-true, cond-false}
 use Rattle.masks.specs.Masks.{has, numbers, without}
 use Rattle.model.specs.Board.{Board, room}
 use Rattle.model.specs.Calls.{Call, State, answer, does, enter, no_place, post, reopen, settle}
@@ -14,8 +13,8 @@ use Rattle.roots.specs.Roots.{roots_causes}
 use Rattle.range.specs.Ranges.{range_causes}
 use Rattle.kinds.specs.SheetRules.{sheet_fault, sheet_run}
 use Rattle.plan.specs.States.{free_places}
-use Rattle.named.specs.Causes.{absent, all_different_causes, among_causes, beyond, misfit, n_value_causes, no_range_lem, repeated, two_groups_causes}
-use Rattle.named.specs.Parts.{Accepts, all_different_calls, among_calls, apart_rule, count_rule, disjoint_calls, is_calls, n_value_calls, others, range_calls, roots_rule, uses_calls, within_rule}
+use Rattle.named.specs.Causes.{absent, among_causes, beyond, misfit, n_value_causes, no_range, repeated, two_groups_causes}
+use Rattle.named.specs.Parts.{Accepts, among_calls, apart_rule, count_rule, disjoint_calls, is_calls, n_value_calls, others, range_calls, roots_rule, uses_calls, within_rule}
 use Rattle.named.proofs.Quiet.{None, none-there, quiet}
 use Rattle.kinds.specs.declared.SheetRule.{SheetRule}
 
@@ -102,7 +101,7 @@ module _ {bd : Board} {s t : ℕ} (h : Helpers bd s t) where
   pub roots-sound : (g : ℕ) → beyond bd.sensors g ≡ false → Sound bd (post (roots_rule g s t))
   roots-sound g b = quiet (roots_causes bd g s t) (h.s_there, (h.t_there, (b, (h.of_sensors, (not_from_true _ h.of_slots, tt)))))
 
-pub count-sound : (bd : Board) (a p q : ℕ) → leb bd.sets a ≡ false → no_range_lem p q ≡ false → Sound bd (post (count_rule a p q))
+pub count-sound : (bd : Board) (a p q : ℕ) → leb bd.sets a ≡ false → no_range p q ≡ false → Sound bd (post (count_rule a p q))
 count-sound bd a p q l r = let w = or_parts _ _ r in quiet (count_causes bd a p q) (l, (w.0, (w.1, tt)))
 
 pub pair-sound : (bd : Board) (a b : ℕ) → leb bd.sets a ≡ false → leb bd.sets b ≡ false → has bd.kinds a ≡ true → has bd.kinds b ≡ true → eqb a b ≡ false
@@ -116,27 +115,17 @@ sounds-join bd (x ∷ xs) ys h k = (h.0, sounds-join bd xs ys h.1 k)
 -- ---- the constraints
 
 module _ (z : State SheetRule) (g s t : ℕ) where
-  range-count : (p q : ℕ) → absent z.board s t ≡ false → beyond z.board.sensors g ≡ false → misfit z.board s t ≡ false → no_range_lem p q ≡ false → ltb (free_places z) 2 ≡ false
-      → Accepts (n_value_calls z.board g p q s t) z
-  range-count p q a b k n f =
-      let h = helpers z.board s t a k in
-      accepts-all (n_value_calls z.board g p q s t) z
-      (sounds-join z.board (range_calls z.board g s t) (post (count_rule t p q) ∷ []) (range-sound h g b) (count-sound z.board t p q h.t_there n, tt))
-      (ltb-false (free_places z) 2 f)
-
   pub n-value-each : (p q : ℕ) → refusal (n_value_causes z.board (free_places z) g p q s t) ≡ 0 → Accepts (n_value_calls z.board g p q s t) z
   n-value-each p q e =
-      let w = none-there (absent z.board s t) (beyond z.board.sensors g) (misfit z.board s t) (eqb s t) (no_range_lem p q) (ltb (free_places z) 2) e in
-      range-count p q w.there w.masks_on w.kinds_fit w.a_range w.places
-
-  pub all-different-each : ones g ≤ 64 → refusal (all_different_causes z.board (free_places z) g s t) ≡ 0 → Accepts (all_different_calls z.board g s t) z
-  all-different-each l e =
-      let w = none-there (absent z.board s t) (beyond z.board.sensors g) (misfit z.board s t) (eqb s t) false (ltb (free_places z) 2) e in
-      range-count (ones g) (ones g) w.there w.masks_on w.kinds_fit (or_from _ _ (le-ltb (ones g) (ones g) (omega arith)) (le-ltb 64 (ones g) l)) w.places
+      let w = none-there (absent z.board s t) (beyond z.board.sensors g) (misfit z.board s t) (eqb s t) (no_range p q) (ltb (free_places z) 2) e in
+      let h = helpers z.board s t w.there w.kinds_fit in
+      accepts-all (n_value_calls z.board g p q s t) z
+      (sounds-join z.board (range_calls z.board g s t) (post (count_rule t p q) ∷ []) (range-sound h g w.masks_on) (count-sound z.board t p q h.t_there w.a_range, tt))
+      (ltb-false (free_places z) 2 w.places)
 
   pub among-each : (v p q : ℕ) → refusal (among_causes z.board (free_places z) g v p q s t) ≡ 0 → Accepts (among_calls z.board g v p q s t) z
   among-each v p q e =
-      let w = none-there (absent z.board s t) (beyond z.board.sensors g || beyond z.board.slots v) (misfit z.board s t) (eqb s t) (no_range_lem p q) (ltb (free_places z) 2) e in
+      let w = none-there (absent z.board s t) (beyond z.board.sensors g || beyond z.board.slots v) (misfit z.board s t) (eqb s t) (no_range p q) (ltb (free_places z) 2) e in
       let h = helpers z.board s t w.there w.kinds_fit in
       let m = or_parts _ _ w.masks_on in
       accepts-all (among_calls z.board g v p q s t) z

@@ -17,7 +17,7 @@ use Rattle.roots.specs.Roots.{agree, roots_holds}
 use Rattle.range.specs.Ranges.{slots_of_all}
 use Rattle.range.proofs.Images.{image-into, image-onto, mask-in, mask-of, mask_of}
 use Rattle.kinds.specs.SheetRules.{sheet_holds}
-use Rattle.named.specs.Causes.{absent, all_different_causes, among_causes, beyond, misfit, n_value_causes, no_range_lem}
+use Rattle.named.specs.Causes.{absent, among_causes, beyond, misfit, n_value_causes, no_range}
 use Rattle.named.specs.Meanings.{AllDifferent, AllDifferentMeans, Among, AmongMeans, Between, Disjoint, Exactly, Four, KeepsCalls, NValue, NValueMeans, Two, Uses, chosen}
 use Rattle.named.specs.Parts.{all_different_calls, among_calls, apart_rule, count_rule, disjoint_calls, is_calls, n_value_calls, range_calls, roots_rule, uses_calls, within_rule}
 use Rattle.named.proofs.Accepted.{Groups, Helpers, helpers, s-room, t-room}
@@ -228,15 +228,15 @@ module _ (bd : Board) (small : bd.sensors ≤ 64) (g h s t u w : ℕ) (b : Group
 module _ (bd : Board) (free g s t : ℕ) where
   pub n-value-so : bd.sensors ≤ 64 → (p q : ℕ) → refusal (n_value_causes bd free g p q s t) ≡ 0 → NValueMeans bd g p q s t
   n-value-so small p q e x on =
-      let w = none-there (absent bd s t) (beyond bd.sensors g) (misfit bd s t) (eqb s t) (no_range_lem p q) (ltb free 2) e in
+      let w = none-there (absent bd s t) (beyond bd.sensors g) (misfit bd s t) (eqb s t) (no_range p q) (ltb free 2) e in
       n-value-meant bd small g s t (helpers bd s t w.there w.kinds_fit) (leb-false _ g w.masks_on) x on p q
 
-  pub all-different-so : bd.sensors ≤ 64 → refusal (all_different_causes bd free g s t) ≡ 0 → AllDifferentMeans bd g s t
+  pub all-different-so : bd.sensors ≤ 64 → refusal (n_value_causes bd free g (ones g) (ones g) s t) ≡ 0 → AllDifferentMeans bd g s t
   all-different-so small e x on =
-      let w = none-there (absent bd s t) (beyond bd.sensors g) (misfit bd s t) (eqb s t) false (ltb free 2) e in
+      let w = none-there (absent bd s t) (beyond bd.sensors g) (misfit bd s t) (eqb s t) (no_range (ones g) (ones g)) (ltb free 2) e in
       all-different-meant bd small g s t (helpers bd s t w.there w.kinds_fit) (leb-false _ g w.masks_on) x on
 
   pub among-so : bd.slots ≤ 64 → (v p q : ℕ) → refusal (among_causes bd free g v p q s t) ≡ 0 → AmongMeans bd g v p q s t
   among-so small v p q e x on =
-      let w = none-there (absent bd s t) (beyond bd.sensors g || beyond bd.slots v) (misfit bd s t) (eqb s t) (no_range_lem p q) (ltb free 2) e in
+      let w = none-there (absent bd s t) (beyond bd.sensors g || beyond bd.slots v) (misfit bd s t) (eqb s t) (no_range p q) (ltb free 2) e in
       among-meant bd small g v s t (helpers bd s t w.there w.kinds_fit) (leb-false _ v (or_parts _ _ w.masks_on).1) x on p q

@@ -1,5 +1,5 @@
 -- No cause, no refusal, and the other way round. Assumes nothing.
-use Rattle.std.proofs.Common.{◌≡◌, ℕ, Bool, true, false, cond, List, [], ◌∷◌, refl, ◌∙◌, ap₂, true≢false, arith}
+use Rattle.std.proofs.Common.{◌≡◌, ℕ, Bool, true, false, cond, List, [], ◌∷◌, refl, ◌∙◌, true≢false, arith}
 use Rattle.model.specs.Refusals.{Cause, either, first_in, order, refusal}
 use Rattle.named.specs.Causes.{six}
 
@@ -40,7 +40,3 @@ none-there false false true d e f z = absurd (omega arith)
 none-there false false false true e f z = absurd (omega arith)
 none-there false false false false true f z = absurd (omega arith)
 none-there false false false false false true z = absurd (omega arith)
-
--- a check asked of values that are what the causes say
-pub asked-as : (a c d f : Bool) {b b' e e' : Bool} → 0 ≡ refusal (six a b c d e f) → b ≡ b' → e ≡ e' → 0 ≡ refusal (six a b' c d e' f)
-asked-as a c d f z p q = z ∙ ap₂ (λ (x y : Bool). refusal (six a x c d y f)) p q

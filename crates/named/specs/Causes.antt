@@ -21,8 +21,8 @@ abbrev pub beyond : ℕ → ℕ → Bool
 beyond n mask = nat_le (2 ^ n) mask
 
 -- the least count is over the greatest, or the greatest over 64
-abbrev pub no_range_lem : ℕ → ℕ → Bool
-no_range_lem p q = nat_lt q p || nat_lt 64 q
+abbrev pub no_range : ℕ → ℕ → Bool
+no_range p q = nat_lt q p || nat_lt 64 q
 
 -- of four sets one is named twice
 abbrev pub repeated : ℕ → ℕ → ℕ → ℕ → Bool
@@ -31,13 +31,13 @@ repeated s t u w = (s == t || u == w) || ((s == u || t == w) || (s == w || t == 
 -- ---- the causes of each call, `free` being how many more rules the table has places for
 
 abbrev pub n_value_causes : Board → ℕ → ℕ → ℕ → ℕ → ℕ → ℕ → List Cause
-n_value_causes bd free g p q s t = six (absent bd s t) (beyond bd.sensors g) (misfit bd s t) (s == t) (no_range_lem p q) (nat_lt free 2)
+n_value_causes bd free g p q s t = six (absent bd s t) (beyond bd.sensors g) (misfit bd s t) (s == t) (no_range p q) (nat_lt free 2)
 
 abbrev pub all_different_causes : Board → ℕ → ℕ → ℕ → ℕ → List Cause
 all_different_causes bd free g s t = six (absent bd s t) (beyond bd.sensors g) (misfit bd s t) (s == t) false (nat_lt free 2)
 
 abbrev pub among_causes : Board → ℕ → ℕ → ℕ → ℕ → ℕ → ℕ → ℕ → List Cause
-among_causes bd free g v p q s t = six (absent bd s t) (beyond bd.sensors g || beyond bd.slots v) (misfit bd s t) (s == t) (no_range_lem p q) (nat_lt free 2)
+among_causes bd free g v p q s t = six (absent bd s t) (beyond bd.sensors g || beyond bd.slots v) (misfit bd s t) (s == t) (no_range p q) (nat_lt free 2)
 
 -- of Disjoint and of Uses
 abbrev pub two_groups_causes : Board → ℕ → ℕ → ℕ → ℕ → ℕ → ℕ → ℕ → List Cause

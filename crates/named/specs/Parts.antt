@@ -54,13 +54,17 @@ all_different_calls bd g s t = range_calls bd g s t ++ (post (count_rule t (coun
 abbrev pub among_calls : Board → ℕ → ℕ → ℕ → ℕ → ℕ → ℕ → List (Call SheetRule)
 among_calls bd g v p q s t = is_calls bd t v ++ (post (roots_rule g s t) ∷ post (count_rule s p q) ∷ [])
 
+-- T is the slots of G, W those of H, and a rule
+abbrev pub groups_calls : Board → ℕ → ℕ → ℕ → ℕ → ℕ → ℕ → SheetRule → List (Call SheetRule)
+groups_calls bd g h s t u w r = range_calls bd g s t ++ (range_calls bd h u w ++ (post r ∷ []))
+
 -- the sensors of G and those of H have no slot in common
 abbrev pub disjoint_calls : Board → ℕ → ℕ → ℕ → ℕ → ℕ → ℕ → List (Call SheetRule)
-disjoint_calls bd g h s t u w = range_calls bd g s t ++ (range_calls bd h u w ++ (post (apart_rule t w) ∷ []))
+disjoint_calls bd g h s t u w = groups_calls bd g h s t u w (apart_rule t w)
 
 -- the slots of the sensors of H are among those of the sensors of G
 abbrev pub uses_calls : Board → ℕ → ℕ → ℕ → ℕ → ℕ → ℕ → List (Call SheetRule)
-uses_calls bd g h s t u w = range_calls bd g s t ++ (range_calls bd h u w ++ (post (within_rule w t) ∷ []))
+uses_calls bd g h s t u w = groups_calls bd g h s t u w (within_rule w t)
 
 -- ---- what a named call does
 

@@ -1,19 +1,17 @@
 #![tactic(auto)]
 
 // The same entries in several orders, with settles in between and refused calls among them: the listings are equal.
-use anyhow::anyhow;
+use anyhow::Context;
+use board::refusal::Refusal;
 use kinds::SheetRule;
 use mix::{Step, play};
 use plan::draft::Draft;
 use planner::rest::settle;
 use range::range::Range;
 use sets::count::Count;
-use sets::row::Row;
 use text::listing::LONGEST_LISTING;
 
 type Entry = Step<SheetRule>;
-
-const SPARE: SheetRule = SheetRule::Row(Row { a: 0 });
 
 const FIRST: Entry = Step::Limit {
     sensor: 0,
@@ -79,7 +77,7 @@ fn main(rt: HostRuntime) -> anyhow::Result<()> {
         ],
         &mut other,
     )?;
-    compare(&rt, &first, a, &other, b)?;
+    compare(&rt, a, b)?;
     let c = list(
         &rt,
         "repeated, with refused calls",
@@ -99,52 +97,49 @@ fn main(rt: HostRuntime) -> anyhow::Result<()> {
         ],
         &mut other,
     )?;
-    compare(&rt, &first, a, &other, c)?;
-    if a > first.len() {
-        return Err(anyhow!("the listing has no end"));
-    }
-    rt.print(std::str::from_utf8(&first[0..a])?)?;
+    compare(&rt, a, c)?;
+    rt.print(std::str::from_utf8(a)?)?;
     Ok(())
 }
 
 // Plays the steps on a new plan of three sensors, five slots, a set of sensors and a set of slots; tells each answer, settles and lists.
-fn list(rt: &impl Print, title: &str, steps: &[Entry], out: &mut [u8]) -> anyhow::Result<usize> {
+fn list<'a>(
+    rt: &impl Print,
+    title: &str,
+    steps: &[Entry],
+    out: &'a mut [u8],
+) -> anyhow::Result<&'a [u8]> {
     println!(rt; "{title}")?;
-    let mut places = [SPARE; 8];
+    let mut places = [SheetRule::default(); 8];
     let mut draft = Draft::begin(&mut places);
-    if draft.new(3, 5, 2, 0b10).is_err() {
-        return Err(anyhow!("no such board"));
-    }
-    let mut answers = [0u8; 16];
+    draft.new(3, 5, 2, 0b10).context("no such board")?;
+    let mut answers = [Ok(()); 16];
     let draft = play(draft, steps, &mut answers);
-    for (step, answer) in steps.iter().zip(answers.iter()) {
+    for (step, answer) in steps.iter().zip(&answers) {
         tell(rt, step, *answer)?;
     }
     let settled = settle(draft);
-    let Ok(end) = settled.listing(out) else {
-        return Err(anyhow!("the output is too short"));
-    };
-    Ok(end)
+    let end = settled.listing(out).context("the output is too short")?;
+    Ok(&out[..end])
 }
 
-fn tell(rt: &impl Print, step: &Entry, answer: u8) -> anyhow::Result<()> {
+// A step, and the number of its refusal or 0. The words are this program's, so a step has no `Display`.
+fn tell(rt: &impl Print, step: &Entry, answer: Result<(), Refusal>) -> anyhow::Result<()> {
+    let number = answer.err().map_or(0, u8::from);
     match *step {
         Step::Limit { sensor, mask } => println!(rt;
-            "  limit sensor {sensor} to {mask:#b}: {answer}"
+            "  limit sensor {sensor} to {mask:#b}: {number}"
         )?,
-        Step::Claim { set, mask } => println!(rt; "  claim {mask:#b} for set {set}: {answer}")?,
-        Step::Bar { set, mask } => println!(rt; "  bar {mask:#b} from set {set}: {answer}")?,
-        Step::Post(_) => println!(rt; "  post a rule: {answer}")?,
+        Step::Claim { set, mask } => println!(rt; "  claim {mask:#b} for set {set}: {number}")?,
+        Step::Bar { set, mask } => println!(rt; "  bar {mask:#b} from set {set}: {number}")?,
+        Step::Post(_) => println!(rt; "  post a rule: {number}")?,
         Step::Settle => rt.println("  settle, reopen")?,
     }
     Ok(())
 }
 
-fn compare(rt: &impl Print, a: &[u8], n: usize, b: &[u8], m: usize) -> anyhow::Result<()> {
-    if n > a.len() || m > b.len() {
-        return Err(anyhow!("the listing has no end"));
-    }
-    if a[0..n] == b[0..m] {
+fn compare(rt: &impl Print, a: &[u8], b: &[u8]) -> anyhow::Result<()> {
+    if a == b {
         rt.println("the listing is the same")?;
     } else {
         rt.println("the listing is ANOTHER")?;

@@ -1,5 +1,6 @@
-ghost use Rattle.std.specs.Prelude.{◌≡◌, ◌<◌, true, false, map, length, take, set, if◌then◌else◌, ◌≢◌};
+ghost use Rattle.std.specs.Prelude.{◌≡◌, ◌<◌, true, false, map, length, min, take, set, if◌then◌else◌, nat_le, ◌≢◌};
 ghost use Rattle.masks.specs.Masks.{has};
+ghost use Rattle.model.specs.Capacity.{most_places};
 ghost use Rattle.model.specs.Board.{board_of, room as room_of};
 ghost use Rattle.model.specs.Box.{full};
 ghost use Rattle.model.specs.Laws.{asked};
@@ -9,13 +10,12 @@ ghost use Rattle.model.specs.Entries.{limit as limiting, claim as claiming, bar 
 ghost use Rattle.model.specs.Calls.{answer, does, draft as drafted, enter, post as posting, settle as settling, new_causes, no_place, MixesStand};
 ghost use Rattle.board.specs.Numbers.{outcome};
 ghost use Rattle.board.specs.Model.{board, model};
-ghost use Rattle.plan.specs.States.{state, posted_places, free_places};
+ghost use Rattle.plan.specs.States.{SameLoan, state_of, settled_of, posted_places, free_places};
 ghost use Rattle.plan.specs.Trust.{Trusted};
 
 use crate::settled::Settled;
 use board::domains::Domains;
 use board::refusal::{Refusal, earlier};
-use masks::is_below;
 use rule::Rule;
 use settle::settle;
 
@@ -26,6 +26,7 @@ pub const MOST_PLACES: usize = 256;
 pub type KindWord = u32;
 
 // A plan that takes entries and rules. Its board may be read; what is left of it only after it is settled.
+// The first `count` of the places hold its rules: the places are lent, and no vector may grow here, since there is no heap.
 #[derive(Drop)]
 pub struct Draft<'a, R> {
     pub(crate) plan: Domains,
@@ -38,7 +39,7 @@ impl<'a, R: Rule> Draft<'a, R> {
     pub fn begin(places: &'a mut [R]) -> Draft<'a, R>
         ensures lent { result.places.ghost_name ≡ places.entry.ghost_name }
         ensures places { result.places.now ≡ places.old }
-        ensures plan { state result.plan result.places.now result.count false ≡ drafted (board_of 1 1 0 0) (length places.old) (full (board_of 1 1 0 0)) }
+        ensures plan { state_of result ≡ drafted (board_of 1 1 0 0) (length places.old) (full (board_of 1 1 0 0)) }
     {
         Draft {
             plan: Domains::least(),
@@ -49,35 +50,26 @@ impl<'a, R: Rule> Draft<'a, R> {
 
     // Makes it a new plan: n sensors, m slots and k sets, and an empty table.
     pub fn new(&mut self, n: u8, m: u8, k: u8, kinds: KindWord) -> Result<(), Refusal>
-        ensures lent { self.new.places.ghost_name ≡ self.old.places.ghost_name }
+        ensures lent { SameLoan self.old self.new }
         ensures places { self.new.places.now ≡ self.old.places.now }
         ensures answer { outcome result ≡ refusal (new_causes n m k kinds) }
-        ensures accepted { outcome result ≡ 0 → state self.new.plan self.new.places.now self.new.count false ≡ drafted (board_of n m k kinds) (length self.old.places.now) (full (board_of n m k kinds)) }
+        ensures accepted { outcome result ≡ 0 → state_of self.new ≡ drafted (board_of n m k kinds) (length self.old.places.now) (full (board_of n m k kinds)) }
         ensures refused { (outcome result ≢ 0) → (self.new.plan ≡ self.old.plan) × (self.new.count ≡ self.old.count) }
     {
-        match Domains::new(n, m, k, u64::from(kinds)) {
-            Ok(plan) => {
-                self.plan = plan;
-                self.count = 0;
-                Ok(())
-            }
-            Err(refusal) => Err(refusal),
-        }
+        self.plan = Domains::new(n, m, k, u64::from(kinds))?;
+        self.count = 0;
+        Ok(())
     }
 
     // Keeps the candidates of a sensor that are in the mask.
+    // Limit, claim and bar are three calls: each names its own entry in its contract, and what they share is `board`'s.
     pub fn limit(&mut self, sensor: u8, mask: u64) -> Result<(), Refusal>
-        ensures lent { self.new.places.ghost_name ≡ self.old.places.ghost_name }
+        ensures lent { SameLoan self.old self.new }
         ensures places { (self.new.places.now ≡ self.old.places.now) × (self.new.count ≡ self.old.count) }
-        ensures answer { outcome result ≡ answer R.fault R.run (enter (limiting sensor mask)) (state self.old.plan self.old.places.now self.old.count false) }
-        ensures plan { state self.new.plan self.new.places.now self.new.count false ≡ does R.fault R.run (enter (limiting sensor mask)) (state self.old.plan self.old.places.now self.old.count false) }
+        ensures answer { outcome result ≡ answer R.fault R.run (enter (limiting sensor mask)) (state_of self.old) }
+        ensures plan { state_of self.new ≡ does R.fault R.run (enter (limiting sensor mask)) (state_of self.old) }
     {
-        if sensor >= self.plan.sensors() {
-            return Err(Refusal::Sensor);
-        }
-        if !is_below(mask, self.plan.slots()) {
-            return Err(Refusal::Mask);
-        }
+        self.plan.fit_limit(sensor, mask)?;
         let mut plan = self.plan;
         plan.limit(sensor, mask);
         self.plan = plan;
@@ -86,17 +78,12 @@ impl<'a, R: Rule> Draft<'a, R> {
 
     // Adds the mask to the lower bound of a set.
     pub fn claim(&mut self, set: u8, mask: u64) -> Result<(), Refusal>
-        ensures lent { self.new.places.ghost_name ≡ self.old.places.ghost_name }
+        ensures lent { SameLoan self.old self.new }
         ensures places { (self.new.places.now ≡ self.old.places.now) × (self.new.count ≡ self.old.count) }
-        ensures answer { outcome result ≡ answer R.fault R.run (enter (claiming set mask)) (state self.old.plan self.old.places.now self.old.count false) }
-        ensures plan { state self.new.plan self.new.places.now self.new.count false ≡ does R.fault R.run (enter (claiming set mask)) (state self.old.plan self.old.places.now self.old.count false) }
+        ensures answer { outcome result ≡ answer R.fault R.run (enter (claiming set mask)) (state_of self.old) }
+        ensures plan { state_of self.new ≡ does R.fault R.run (enter (claiming set mask)) (state_of self.old) }
     {
-        if set >= self.plan.sets() {
-            return Err(Refusal::Set);
-        }
-        if !is_below(mask, self.plan.room(set)) {
-            return Err(Refusal::Mask);
-        }
+        self.plan.fit_bound(set, mask)?;
         let mut plan = self.plan;
         plan.claim(set, mask);
         self.plan = plan;
@@ -105,17 +92,12 @@ impl<'a, R: Rule> Draft<'a, R> {
 
     // Takes the mask out of the upper bound of a set.
     pub fn bar(&mut self, set: u8, mask: u64) -> Result<(), Refusal>
-        ensures lent { self.new.places.ghost_name ≡ self.old.places.ghost_name }
+        ensures lent { SameLoan self.old self.new }
         ensures places { (self.new.places.now ≡ self.old.places.now) × (self.new.count ≡ self.old.count) }
-        ensures answer { outcome result ≡ answer R.fault R.run (enter (barring set mask)) (state self.old.plan self.old.places.now self.old.count false) }
-        ensures plan { state self.new.plan self.new.places.now self.new.count false ≡ does R.fault R.run (enter (barring set mask)) (state self.old.plan self.old.places.now self.old.count false) }
+        ensures answer { outcome result ≡ answer R.fault R.run (enter (barring set mask)) (state_of self.old) }
+        ensures plan { state_of self.new ≡ does R.fault R.run (enter (barring set mask)) (state_of self.old) }
     {
-        if set >= self.plan.sets() {
-            return Err(Refusal::Set);
-        }
-        if !is_below(mask, self.plan.room(set)) {
-            return Err(Refusal::Mask);
-        }
+        self.plan.fit_bound(set, mask)?;
         let mut plan = self.plan;
         plan.bar(set, mask);
         self.plan = plan;
@@ -128,16 +110,15 @@ impl<'a, R: Rule> Draft<'a, R> {
     pub fn settle(self) -> Settled<'a, R>
         ensures lent { result.places.ghost_name ≡ self.entry.places.ghost_name }
         ensures places { (result.places.now ≡ self.entry.places.now) × (result.count ≡ self.entry.count) }
-        ensures plan { state result.plan result.places.now result.count true ≡ does R.fault R.run settling (state self.entry.plan self.entry.places.now self.entry.count false) }
-        ensures trusted { Trusted R.fault R.holds R.run (state self.entry.plan self.entry.places.now self.entry.count false) (model result.plan) }
+        ensures plan { settled_of result ≡ does R.fault R.run settling (state_of self.entry) }
+        ensures trusted { Trusted R.fault R.holds R.run (state_of self.entry) (model result.plan) }
         ensures mixes { MixesStand R.fault R.holds R.run }
     {
         let Draft {
-            plan,
+            mut plan,
             places,
             count,
         } = self;
-        let mut plan = plan;
         settle_table(places, count, &mut plan);
         Settled {
             plan,
@@ -188,44 +169,42 @@ impl<'a, R: Rule> Draft<'a, R> {
 
     // How many more rules the table has places for.
     pub fn free(&self) -> usize
-        ensures { result ≡ free_places (state self.now.plan self.now.places.now self.now.count false) }
+        ensures { result ≡ free_places (state_of self.now) }
     {
-        let most = MOST_PLACES.min(self.places.len());
-        if self.count < most {
-            most - self.count
-        } else {
-            0
-        }
+        MOST_PLACES.min(self.places()).saturating_sub(self.count)
     }
 
     // Whether there is a place for one more rule.
     fn room(&self) -> Result<(), Refusal>
-        ensures { outcome result ≡ (if no_place (state self.now.plan self.now.places.now self.now.count false) then 8 else 0) }
+        ensures { outcome result ≡ (if no_place (state_of self.now) then 8 else 0) }
     {
-        if self.count >= MOST_PLACES.min(self.places()) {
-            return Err(Refusal::Room);
-        }
-        Ok(())
+        fit_count(self.places(), self.count)
     }
 }
 
 impl<'a, R: Rule + Drop> Draft<'a, R> {
     // Adds a rule to the table.
     pub fn post(&mut self, rule: R) -> Result<(), Refusal>
-        ensures lent { self.new.places.ghost_name ≡ self.old.places.ghost_name }
+        ensures lent { SameLoan self.old self.new }
         ensures places { self.new.places.now ≡ posted_places (outcome result) self.old.places.now self.old.count rule }
-        ensures answer { outcome result ≡ answer R.fault R.run (posting rule) (state self.old.plan self.old.places.now self.old.count false) }
-        ensures plan { state self.new.plan self.new.places.now self.new.count false ≡ does R.fault R.run (posting rule) (state self.old.plan self.old.places.now self.old.count false) }
+        ensures answer { outcome result ≡ answer R.fault R.run (posting rule) (state_of self.old) }
+        ensures plan { state_of self.new ≡ does R.fault R.run (posting rule) (state_of self.old) }
     {
-        match earlier(rule.fit(&self.plan), self.room()) {
-            Ok(()) => {}
-            Err(refusal) => return Err(refusal),
-        }
-        let at = self.count;
-        put(self.places, at, rule);
-        self.count = at + 1;
+        earlier(rule.fit(&self.plan), self.room())?;
+        put(self.places, self.count, rule);
+        self.count += 1;
         Ok(())
     }
+}
+
+// Whether a table with so many places and rules has a place for one more.
+pub fn fit_count(places: usize, count: usize) -> Result<(), Refusal>
+    ensures { outcome result ≡ (if nat_le (min places most_places) count then 8 else 0) }
+{
+    if count >= MOST_PLACES.min(places) {
+        return Err(Refusal::Room);
+    }
+    Ok(())
 }
 
 // Settles a box under the first `count` rules of the places.
@@ -233,8 +212,7 @@ fn settle_table<R: Rule>(places: &[R], count: usize, d: &mut Domains)
     ensures board { board d.new ≡ board d.old }
     ensures model { model d.new ≡ settled (board d.old) (map (asked R.fault R.run (board d.old)) (take count places.now)) (model d.old) }
 {
-    let n = count.min(places.len());
-    settle(&places[0..n], d);
+    settle(&places[..count.min(places.len())], d);
 }
 
 // Writes one place.

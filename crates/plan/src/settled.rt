@@ -6,7 +6,7 @@ ghost use Rattle.board.specs.Model.{board, model};
 ghost use Rattle.text.specs.Lines.{listing as listing_text};
 ghost use Rattle.text.specs.Printed.{Printed};
 ghost use Rattle.model.specs.Calls.{does, reopen as reopening};
-ghost use Rattle.plan.specs.States.{state};
+ghost use Rattle.plan.specs.States.{state_of, settled_of};
 
 use crate::draft::Draft;
 use board::domains::Domains;
@@ -14,7 +14,7 @@ use board::refusal::Refusal;
 use rule::Rule;
 use text::listing::listing;
 
-// A plan at rest. It can be read, and takes no entries.
+// A plan at rest. It can be read, and takes no entries. It has the fields of a draft and is a type of its own, since the type says what may be asked.
 #[derive(Drop)]
 pub struct Settled<'a, R> {
     pub(crate) plan: Domains,
@@ -35,9 +35,7 @@ impl<'a, R> Settled<'a, R> {
         ensures answer { outcome result ≡ refusal ((2, nat_le (board self.now.plan).sensors sensor) ∷ []) }
         ensures value { IfOk result (λ m. m ≡ cand (model self.now.plan) sensor) }
     {
-        if sensor >= self.plan.sensors() {
-            return Err(Refusal::Sensor);
-        }
+        self.plan.fit_sensor(sensor)?;
         Ok(self.plan.candidates(sensor))
     }
 
@@ -46,9 +44,7 @@ impl<'a, R> Settled<'a, R> {
         ensures answer { outcome result ≡ refusal ((3, nat_le (board self.now.plan).sets set) ∷ []) }
         ensures value { IfOk result (λ b. (b.lower ≡ low_of (model self.now.plan) set) × (b.upper ≡ high_of (model self.now.plan) set)) }
     {
-        if set >= self.plan.sets() {
-            return Err(Refusal::Set);
-        }
+        self.plan.fit_set(set)?;
         Ok(Bounds {
             lower: self.plan.lower(set),
             upper: self.plan.upper(set),
@@ -75,24 +71,12 @@ impl<'a, R: Rule> Settled<'a, R> {
     pub fn reopen(self) -> Draft<'a, R>
         ensures lent { result.places.ghost_name ≡ self.entry.places.ghost_name }
         ensures places { (result.places.now ≡ self.entry.places.now) × (result.count ≡ self.entry.count) }
-        ensures plan { state result.plan result.places.now result.count false ≡ does R.fault R.run reopening (state self.entry.plan self.entry.places.now self.entry.count true) }
+        ensures plan { state_of result ≡ does R.fault R.run reopening (settled_of self.entry) }
     {
-        let Settled {
-            plan,
-            places,
-            count,
-        } = self;
-        draft_of(plan, places, count)
-    }
-}
-
-fn draft_of<'a, R>(plan: Domains, places: &'a mut [R], count: usize) -> Draft<'a, R>
-    ensures lent { result.places.ghost_name ≡ places.entry.ghost_name }
-    ensures plan { (result.plan ≡ plan) × (result.places.now ≡ places.old) × (result.count ≡ count) }
-{
-    Draft {
-        plan,
-        places,
-        count,
+        Draft {
+            plan: self.plan,
+            places: self.places,
+            count: self.count,
+        }
     }
 }

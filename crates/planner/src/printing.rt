@@ -13,6 +13,7 @@ use text::refused::refused;
 
 // From file to listing: loads a sheet over the places, settles it, and writes the listing at the front of the output, or the line of the refusal;
 // tells the length. Where the output is too short, that is refused, and the output left as it was; one of the longest listing's length never is. No text is empty.
+// A length and no slice of the output, as std's `read` gives it.
 // All that is promised of a mix of calls is promised here of the sheet's own entries.
 pub fn print_sheet(file: &[u8], places: &mut [SheetRule], out: &mut [u8]) -> Result<usize, Refusal>
     ensures printed { Printed (sheet_text file.now (length places.old)) result out.old out.new }
@@ -23,6 +24,6 @@ pub fn print_sheet(file: &[u8], places: &mut [SheetRule], out: &mut [u8]) -> Res
     let mut draft = Draft::begin(places);
     match load(file, &mut draft) {
         Ok(()) => settle(draft).listing(out),
-        Err(fault) => refused(fault.number, fault.position, out),
+        Err(fault) => refused(u8::from(fault.cause), fault.position, out),
     }
 }

@@ -1,7 +1,7 @@
 ghost use Rattle.std.specs.Prelude.{◌≡◌, true, false};
 ghost use Rattle.model.specs.Calls.{does, settle as settling};
 ghost use Rattle.board.specs.Model.{model};
-ghost use Rattle.plan.specs.States.{state};
+ghost use Rattle.plan.specs.States.{state_of, settled_of};
 ghost use Rattle.plan.specs.Trust.{Trusted};
 ghost use Rattle.kinds.specs.SheetRules.{sheet_fault, sheet_holds, sheet_run};
 ghost use Rattle.planner.specs.Support.{Supports};
@@ -17,9 +17,9 @@ use plan::settled::Settled;
 pub fn settle<'a>(draft: Draft<'a, SheetRule>) -> Settled<'a, SheetRule>
     ensures lent { result.places.ghost_name ≡ draft.entry.places.ghost_name }
     ensures places { (result.places.now ≡ draft.entry.places.now) × (result.count ≡ draft.entry.count) }
-    ensures plan { state result.plan result.places.now result.count true ≡ does sheet_fault sheet_run settling (state draft.entry.plan draft.entry.places.now draft.entry.count false) }
-    ensures trusted { Trusted sheet_fault sheet_holds sheet_run (state draft.entry.plan draft.entry.places.now draft.entry.count false) (model result.plan) }
-    ensures supports { Supports (state draft.entry.plan draft.entry.places.now draft.entry.count false) (model result.plan) }
+    ensures plan { settled_of result ≡ does sheet_fault sheet_run settling (state_of draft.entry) }
+    ensures trusted { Trusted sheet_fault sheet_holds sheet_run (state_of draft.entry) (model result.plan) }
+    ensures supports { Supports (state_of draft.entry) (model result.plan) }
 {
     draft.settle()
 }

@@ -1,7 +1,7 @@
 -- Entries, one after the other, and what they leave. Assumes nothing.
-use Rattle.std.proofs.Common.{◌≡◌, ℕ, ◌^◌, ◌<◌, true, List, get_or, sym, ap, ◌∙◌, subst, inl, inr, arith}
+use Rattle.std.proofs.Common.{◌≡◌, ℕ, ◌<◌, true, List, get_or, sym, ap, ◌∙◌, subst, inl, inr, arith}
 use Rattle.std.proofs.lemmas.Bool.{both_ways, lt-ltb, eq-eqb, cases_eq, cases_Bool}
-use Rattle.masks.specs.Masks.{has, within, without}
+use Rattle.masks.specs.Masks.{has, within, without, Parted}
 use Rattle.masks.proofs.Masks.{has-zero, within_has}
 use Rattle.masks.proofs.Subsets.{and-within-r, apart_from, within_all, within-le, within-or-r, within-trans}
 use Rattle.model.specs.Board.{Board}
@@ -16,7 +16,7 @@ use Rattle.model.proofs.Tight.{ordering}
 use Rattle.board.specs.Model.{board, model}
 use Rattle.board.specs.declared.domains.Domains.{Domains}
 use Rattle.board.proofs.Shapes.{is-kept}
-use Rattle.covering.proofs.Singles.{drop-only, left_out, less-has, less-not, less-only}
+use Rattle.covering.proofs.Singles.{part-only, part-out, less-has, less-not, less-only}
 use Rattle.range.specs.Entered.{Confined, Entered, Limited, Obedient, Step}
 
 -- a stored box, by the name of its board
@@ -100,18 +100,18 @@ module _ (bd : Board) (some : 0 < bd.sensors) where
     slots = λ l i h e f. absurd (both_ways _ f e);
   }
 
-  pub limited-more : (sensors : ℕ) (keep : List ℕ) (left : ℕ) (a b c : Box) (i : ℕ) → has left i ≡ true → Kept bd a → Kept bd b → Kept bd c
-      → Limited bd sensors keep left a b → c ≡ narrow bd (limit i (get_or keep i 0)) b → Limited bd sensors keep (without left (2 ^ i)) a c
+  pub limited-more : (sensors : ℕ) (keep : List ℕ) (a b c : Box) {left i rest : ℕ} → Parted left i rest → Kept bd a → Kept bd b → Kept bd c
+      → Limited bd sensors keep left a b → c ≡ narrow bd (limit i (get_or keep i 0)) b → Limited bd sensors keep rest a c
   unfolding keeps
-  limited-more sensors keep left a b c i e ka kb kc h q =
-      let one = step-entry (Bounded sensors keep) (limit i (get_or keep i 0)) b c kb q (λ y o n t. t i (h.rest i e)) in
+  limited-more sensors keep a b c {left} {i} p ka kb kc h q =
+      let one = step-entry (Bounded sensors keep) (limit i (get_or keep i 0)) b c kb q (λ y o n t. t i (h.rest i p.member)) in
       record {
-        rest = λ k t. h.rest k (drop-only left i k t);
+        rest = λ k t. h.rest k (part-only p k t);
         step = step-join (Bounded sensors keep) (Bounded sensors keep) (Bounded sensors keep) a b c ka kb kc (λ y t. t) (λ y t. t) h.step one;
         slots = λ l k lk s f. elim (cases_eq k i) [
           | inl z ↦ subst (λ (x : ℕ). within (cand c x) (get_or keep x 0) ≡ true) (sym z) (limit-leaves i (get_or keep i 0) b c (subst (λ (x : ℕ). x < bd.sensors) z lk) kb q l)
           | inr ne ↦ within-trans (cand c k) (cand b k) (get_or keep k 0) ((live-narrower b c l one.inside).fewer k lk)
-              (h.slots (wider b c kb l one.inside) k lk s (left_out left i k ne f))
+              (h.slots (wider b c kb l one.inside) k lk s (part-out p k ne f))
         ];
       }
 

@@ -1,9 +1,10 @@
 -- What it says that a rule fits. Assumes nothing.
-use Rattle.std.proofs.Common.{◌≡◌, ℕ, ◌^◌, ◌<◌, Bool, true, false, cond, not, leb, refl, ap, ◌∙◌, arith}
+use Rattle.std.proofs.Common.{◌≡◌, ℕ, ◌^◌, ◌<◌, true, false, refl, ap, ◌∙◌}
 use Rattle.std.proofs.lemmas.Bool.{both_ways, not-false, leb-false, cond-true, cond-false}
 use Rattle.masks.specs.Masks.{has}
 use Rattle.model.specs.Board.{Board, room}
 use Rattle.model.specs.Refusals.{refusal}
+use Rattle.rule.proofs.Causes.{all_absent}
 use Rattle.range.specs.Ranges.{range_causes}
 
 pub record Fit (bd : Board) (g s t : ℕ) : Type 0 where
@@ -13,24 +14,15 @@ pub record Fit (bd : Board) (g s t : ℕ) : Type 0 where
   pub of_sensors : has bd.kinds s ≡ false
   pub of_slots : has bd.kinds t ≡ true
 
-five : (p q o a b : Bool) → ◌≡◌ {A = ℕ} (cond p 3 (cond q 3 (cond o 4 (cond a 5 (cond b 5 0))))) 0
-    → (p ≡ false) × (q ≡ false) × (o ≡ false) × (a ≡ false) × (b ≡ false)
-five false false false false false e = (refl, refl, refl, refl, refl)
-five true q o a b e = absurd (omega arith)
-five false true o a b e = absurd (omega arith)
-five false false true a b e = absurd (omega arith)
-five false false false true b e = absurd (omega arith)
-five false false false false true e = absurd (omega arith)
-
 pub range-fits : (bd : Board) (g s t : ℕ) → refusal (range_causes bd g s t) ≡ 0 → Fit bd g s t
 range-fits bd g s t e =
-    let w = five (leb bd.sets s) (leb bd.sets t) (leb (2 ^ bd.sensors) g) (has bd.kinds s) (not (has bd.kinds t)) e in
+    let w = all_absent (range_causes bd g s t) refl e in
     record {
       s_there = leb-false _ s w.0;
-      t_there = leb-false _ t w.1;
-      sensors_on = leb-false _ g w.2;
-      of_sensors = w.3;
-      of_slots = not-false _ w.4;
+      t_there = leb-false _ t w.1.0;
+      sensors_on = leb-false _ g w.1.1.0;
+      of_sensors = w.1.1.1.0;
+      of_slots = not-false _ w.1.1.1.1.0;
     }
 
 module _ {bd : Board} {g s t : ℕ} (fit : Fit bd g s t) where

@@ -1,11 +1,11 @@
 -- What the coverings say, sensor by sensor. Assumes nothing.
-use Rattle.std.proofs.Common.{◌≡◌, ℕ, ◌^◌, ◌<◌, true, List, length, get_or, set, sym, ◌∙◌, subst, inl, inr, arith, length-set, get_or-set_other, get_or-set_same}
+use Rattle.std.proofs.Common.{◌≡◌, ℕ, ◌^◌, true, List, length, get_or, set, sym, ◌∙◌, subst, inl, inr, arith, length-set, get_or-set_other, get_or-set_same}
 use lib.Bits.{bit_or}
 use Rattle.std.proofs.lemmas.Bool.{both_ways, cases_eq, or_cases, or_left, or_right}
-use Rattle.masks.specs.Masks.{has, without}
+use Rattle.masks.specs.Masks.{has, Parted}
 use Rattle.masks.proofs.Masks.{has-or, has-zero}
 use Rattle.covering.specs.Covering.{Covering, Needed, candidate}
-use Rattle.covering.proofs.Singles.{drop-only, left_out, or-here, or-keeps, or-only}
+use Rattle.covering.proofs.Singles.{part-only, part-out, or-here, or-keeps, or-only}
 use Rattle.range.specs.Judged.{Freed, Held, Judged, Loose, Tied}
 use Rattle.range.specs.Survey.{common}
 
@@ -21,10 +21,10 @@ judged-start cands sensors claimed lower upper l on covers = record {
   near_from = λ v e. absurd (both_ways _ (has-zero v) e);
 }
 
-module _ {cands : List ℕ} {sensors claimed lower upper left : ℕ} {keep : List ℕ} {bound near : ℕ} (i : ℕ) (low : i < 64) (e : has left i ≡ true)
+module _ {cands : List ℕ} {sensors claimed lower upper left : ℕ} {keep : List ℕ} {bound near : ℕ} {i rest : ℕ} (p : Parted left i rest)
     (h : Judged cands sensors claimed lower upper left keep bound near) where
   here : (m : ℕ) → get_or (set keep i m) i 0 ≡ m
-  here m = get_or-set_same keep i m 0 (let a = h.long in omega arith)
+  here m = get_or-set_same keep i m 0 (let a = h.long in let b = p.low in omega arith)
 
   there : (m k : ℕ) → (k ≡ i → ⊥) → get_or (set keep i m) k 0 ≡ get_or keep k 0
   there m k ne = get_or-set_other keep i k m 0 ne
@@ -45,20 +45,20 @@ module _ {cands : List ℕ} {sensors claimed lower upper left : ℕ} {keep : Lis
   }
 
   pub judged-held : (m : ℕ) → Tied (candidate cands) sensors claimed (get_or cands i 0) m i
-      → Judged cands sensors claimed lower upper (without left (2 ^ i)) (set keep i m) (bit_or bound (2 ^ i)) near
+      → Judged cands sensors claimed lower upper rest (set keep i m) (bit_or bound (2 ^ i)) near
   judged-held m n =
       let mine : Held cands sensors claimed (set keep i m) (bit_or bound (2 ^ i)) i = record {
         tied = subst (λ (u : ℕ). Tied (candidate cands) sensors claimed (get_or cands i 0) u i) (sym (here m)) n;
         taken = or-here bound i;
       } in
       record {
-        inside = λ k q. h.inside k (drop-only left i k q);
+        inside = λ k q. h.inside k (part-only p k q);
         long = length-set keep i m ∙ h.long;
         on = h.on;
         covers = h.covers;
         each = λ k s f. elim (cases_eq k i) [
           | inl z ↦ inr (subst (λ (x : ℕ). Held cands sensors claimed (set keep i m) (bit_or bound (2 ^ i)) x) (sym z) mine)
-          | inr ne ↦ elim (h.each k s (left_out left i k ne f)) [
+          | inr ne ↦ elim (h.each k s (part-out p k ne f)) [
             | inl q ↦ inl (freed-still m near k ne (λ v e. e) q)
             | inr q ↦ inr (held-still m (bit_or bound (2 ^ i)) k ne (or-keeps bound i) q)
           ]
@@ -71,20 +71,20 @@ module _ {cands : List ℕ} {sensors claimed lower upper left : ℕ} {keep : Lis
       }
 
   pub judged-freed : (m : ℕ) → Loose (candidate cands) sensors claimed lower upper (get_or cands i 0) m i
-      → Judged cands sensors claimed lower upper (without left (2 ^ i)) (set keep i m) bound (bit_or near (common cands upper i))
+      → Judged cands sensors claimed lower upper rest (set keep i m) bound (bit_or near (common cands upper i))
   judged-freed m a =
       let mine : Freed cands sensors claimed lower upper (set keep i m) (bit_or near (common cands upper i)) i = record {
         loose = subst (λ (u : ℕ). Loose (candidate cands) sensors claimed lower upper (get_or cands i 0) u i) (sym (here m)) a;
         offers = λ v t. has-or near (common cands upper i) v ∙ or_right _ _ t;
       } in
       record {
-        inside = λ k q. h.inside k (drop-only left i k q);
+        inside = λ k q. h.inside k (part-only p k q);
         long = length-set keep i m ∙ h.long;
         on = h.on;
         covers = h.covers;
         each = λ k s f. elim (cases_eq k i) [
           | inl z ↦ inl (subst (λ (x : ℕ). Freed cands sensors claimed lower upper (set keep i m) (bit_or near (common cands upper i)) x) (sym z) mine)
-          | inr ne ↦ elim (h.each k s (left_out left i k ne f)) [
+          | inr ne ↦ elim (h.each k s (part-out p k ne f)) [
             | inl t ↦ inl (freed-still m (bit_or near (common cands upper i)) k ne (λ v q. has-or near (common cands upper i) v ∙ or_left _ _ q) t)
             | inr t ↦ inr (held-still m bound k ne (λ j e. e) t)
           ]
@@ -92,7 +92,7 @@ module _ {cands : List ℕ} {sensors claimed lower upper left : ℕ} {keep : Lis
         bound_from = h.bound_from;
         near_from = λ v t. elim (or_cases _ _ (sym (has-or near (common cands upper i) v) ∙ t)) [
           | inl y ↦ h.near_from v y
-          | inr y ↦ (i, h.inside i e, a.spared, y)
+          | inr y ↦ (i, h.inside i p.member, a.spared, y)
         ];
       }
 

@@ -1,17 +1,17 @@
 -- Range G S T: S lies within G, and T is exactly the set of the slots of the sensors in S. Assumes nothing.
-use Rattle.std.specs.Prelude.{ℕ, ◌^◌, Bool, not, ◌&&◌, List, [], ◌∷◌, ◌==◌, nat_le}
+use Rattle.std.specs.Prelude.{ℕ, ◌^◌, Bool, ◌&&◌, List, ◌==◌}
 use Rattle.masks.specs.Masks.{has, within}
 use Rattle.model.specs.Board.{Board}
 use Rattle.model.specs.Layout.{Layout, slot_of, set_of}
 use Rattle.model.specs.Box.{Box}
 use Rattle.model.specs.Tight.{tight, union, below}
 use Rattle.model.specs.Refusals.{Cause, refusal}
+use Rattle.model.specs.Fits.{group_causes}
 use Rattle.range.specs.declared.range.Range.{Range}
 
 -- two sets that are there, sensors of the board, and then a sensor set and a slot set
 abbrev pub range_causes : Board → ℕ → ℕ → ℕ → List Cause
-range_causes bd g s t =
-    (3, nat_le bd.sets s) ∷ (3, nat_le bd.sets t) ∷ (4, nat_le (2 ^ bd.sensors) g) ∷ (5, has bd.kinds s) ∷ (5, not (has bd.kinds t)) ∷ []
+range_causes = group_causes
 
 -- the slots of the sensors in a mask
 abbrev pub slots_of_all : Board → Layout → ℕ → ℕ

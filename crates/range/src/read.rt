@@ -1,6 +1,7 @@
 ghost use Rattle.board.specs.Model.{model};
 ghost use Rattle.range.specs.Survey.{Read};
 
+use crate::range::Range;
 use crate::survey::able;
 use board::domains::Domains;
 
@@ -14,18 +15,20 @@ pub struct Reading {
     pub sensors: u64,
 }
 
-/// The sensors that may be in S are those of g and hi S with a candidate in hi T.
-pub fn look_up(d: &Domains, g: u64, s: u8, t: u8) -> Reading
-    ensures { Read g s t (model d.now) result.cands result.lower result.claimed result.upper result.sensors }
-{
-    let cands = d.all_candidates();
-    let upper = d.upper(t);
-    let sensors = able(&cands, d.upper(s) & g, upper);
-    Reading {
-        cands,
-        lower: d.lower(s),
-        claimed: d.lower(t),
-        upper,
-        sensors,
+impl Range {
+    /// Reads what the rule needs. The sensors that may be in S are those of g and hi S with a candidate in hi T.
+    pub(crate) fn read(&self, d: &Domains) -> Reading
+        ensures { Read self.now.g self.now.s self.now.t (model d.now) result.cands result.lower result.claimed result.upper result.sensors }
+    {
+        let cands = d.all_candidates();
+        let upper = d.upper(self.t);
+        let sensors = able(&cands, d.upper(self.s) & self.g, upper);
+        Reading {
+            cands,
+            lower: d.lower(self.s),
+            claimed: d.lower(self.t),
+            upper,
+            sensors,
+        }
     }
 }

@@ -46,7 +46,7 @@ module _ (bd : Board) (some : 0 < bd.sensors) (r : Roots) (b : Box) (at : Restin
   abbrev l : Live bd b
   l = at.live
 
-  abbrev o : Rooted bd r.g r.s r.t
+  abbrev o : Rooted bd r
   o = on bd some r b at
 
   apart : r.t ≡ r.s → ⊥

@@ -30,8 +30,8 @@ module _ (bd : Board) (some : 0 < bd.sensors) (r : Roots) (b : Box) (at : Restin
   abbrev t : ℕ
   t = r.t
 
-  pub on : Rooted bd r.g r.s r.t
-  on = rooted bd r.g r.s r.t at.fit
+  pub on : Rooted bd r
+  on = rooted bd r at.fit
 
   -- no implication changes the box, so each supports each choice
   by_all : AllByRecursion (λ q. (c : Choice) → choice bd b c ≡ true → Supported bd (implied bd q) b c) (parts bd r)
@@ -42,7 +42,7 @@ module _ (bd : Board) (some : 0 < bd.sensors) (r : Roots) (b : Box) (at : Restin
   by-own : (i : ℕ) → i < bd.sensors → (v : Bool) → has g i ≡ v
       → AllByRecursion (λ q. (c : Choice) → choice bd b c ≡ true → Supported bd (implied bd q) b c) (cond v (Implies i s t ∷ ImpliedBy i s t ∷ []) (Excluded i s ∷ []))
   by-own i h v e = subst (λ v. AllByRecursion (λ q. (c : Choice) → choice bd b c ≡ true → Supported bd (implied bd q) b c) (cond v (Implies i s t ∷ ImpliedBy i s t ∷ []) (Excluded i s ∷ []))) e
-      (each_at _ g s t bd.sensors by_all i h)
+      (each_at _ r bd.sensors by_all i h)
 
   open-choice : (c : Choice) → offers bd b c ≡ true → choice bd b c ≡ true
   open-choice c e = choice-live bd some b (live-true bd some b at.live) c ∙ e

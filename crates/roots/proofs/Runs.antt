@@ -18,6 +18,9 @@ use Rattle.model.proofs.Entries.{entry-narrows}
 use Rattle.model.proofs.Linked.{Linked, linked}
 use Rattle.model.proofs.Narrowing.{entries-tight, narrow_cut, narrowed-cut}
 use Rattle.model.proofs.Witness.{covers, firsts, firsts-pick, hi-fills, lo-fills, set-made}
+use Rattle.board.specs.Model.{board, model}
+use Rattle.board.proofs.Shapes.{some, is-kept}
+use Rattle.board.specs.declared.domains.Domains.{Domains}
 use Rattle.roots.specs.Implications.{entries, implication_fault, implication_run, implied_by, implied_by_entries, implies, implies_entries}
 use Rattle.roots.proofs.Bools.{no, not-then, off, then}
 use Rattle.roots.specs.Fitting.{Excludes, Links, excludes, links, two}
@@ -272,3 +275,7 @@ pub implication-tight : (bd : Board) → 0 < bd.sensors → (q : Implication) �
 implication-tight bd some (Excluded i s) e x k = excluded-tight bd some x k i s (excludes bd i s e)
 implication-tight bd some (Implies i s t) e x k = implies-tight bd some x k i s t (links bd i s t e)
 implication-tight bd some (ImpliedBy i s t) e x k = implied-by-tight bd some x k i s t (links bd i s t e)
+
+-- in a stored box
+pub implication_runs : (d : Domains) (q : Implication) → implication_fault (board d) q ≡ 0 → narrowed (narrow (board d)) (entries q (model d)) (model d) ≡ implication_run (board d) q (model d)
+implication_runs d q z = implication-tight (board d) (some d) q z (model d) (is-kept d)

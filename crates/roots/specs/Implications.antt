@@ -1,5 +1,5 @@
 -- What a sensor and its slot have to do with two sets: the parts of a Roots rule. Assumes nothing.
-use Rattle.std.specs.Prelude.{ℕ, ◌^◌, Bool, true, false, cond, not, ◌&&◌, ◌||◌, List, [], ◌∷◌, ◌==◌, bit_and, count_ones, nat_le}
+use Rattle.std.specs.Prelude.{ℕ, ◌^◌, Bool, cond, not, ◌&&◌, ◌||◌, List, [], ◌∷◌, ◌==◌, bit_and, count_ones, nat_le}
 use Rattle.masks.specs.Masks.{has, without}
 use Rattle.model.specs.Board.{Board}
 use Rattle.model.specs.Layout.{Layout, slot_of, set_of}
@@ -46,11 +46,6 @@ abbrev pub implication_run : Board → Implication → Box → Box
 implication_run bd q = tight bd (implied bd q)
 
 -- ---- what the runs enter
-
--- a mask is taken into set t, or out of it
-abbrev pub placed : Bool → ℕ → ℕ → Entry
-placed true t mask = claim t mask
-placed false t mask = bar t mask
 
 -- the sensor's slot is one of `left`, and where that is just one, the entry `sole` of it is made too
 abbrev pub confined : (ℕ → Entry) → ℕ → ℕ → List Entry

@@ -1,10 +1,10 @@
-ghost use Rattle.std.specs.Prelude.{◌≡◌, ◌^◌, ◌<◌, [], ◌∷◌};
-ghost use Rattle.model.specs.Entries.{narrow, narrowed, bar};
+ghost use Rattle.std.specs.Prelude.{◌≡◌, ◌^◌, ◌<◌};
+ghost use Rattle.model.specs.Entries.{narrow, narrowed};
 ghost use Rattle.model.specs.Refusals.{refusal};
 ghost use Rattle.model.specs.Settled.{Progress};
 ghost use Rattle.board.specs.Numbers.{outcome};
 ghost use Rattle.board.specs.Model.{board, model};
-ghost use Rattle.roots.specs.Implications.{implication_fault, implied, implication_run, excluded_causes, linked_causes, subject, entries, implies_entries, implied_by_entries, confined, placed, unsure};
+ghost use Rattle.roots.specs.Implications.{implication_fault, implied, implication_run, excluded_causes, linked_causes, subject, entries, implies_entries, implied_by_entries, unsure};
 ghost use Rattle.model.proofs.Asked.{tight-lawful, tight-restful};
 
 use board::domains::Domains;
@@ -23,6 +23,17 @@ pub enum Implication {
     ImpliedBy { sensor: u8, s: u8, t: u8 },
 }
 
+// What a list of implications has at a place that is not used.
+impl Default for Implication {
+    ghost use Rattle.roots.specs.declared.implication.Implication.TheVariants.{Excluded};
+
+    ghost is_default = { λ q. q ≡ Excluded 0 0 };
+
+    fn default() -> Implication {
+        Implication::Excluded { sensor: 0, s: 0 }
+    }
+}
+
 impl Rule for Implication {
     ghost fault = { implication_fault };
 
@@ -37,15 +48,30 @@ impl Rule for Implication {
     fn fit(&self, d: &Domains) -> Result<(), Refusal> {
         match *self {
             Implication::Excluded { sensor, s } => fit_excluded(d, sensor, s),
-            Implication::Implies { sensor, s, t } => fit_linked(d, sensor, s, t),
-            Implication::ImpliedBy { sensor, s, t } => fit_linked(d, sensor, s, t),
+            Implication::Implies { sensor, s, t } | Implication::ImpliedBy { sensor, s, t } => {
+                fit_linked(d, sensor, s, t)
+            }
         }
     }
 
+    #[tactic(auto, using(crate::proofs::Runs::implication_runs), unfolding(model::specs::Laws::asked))]
     fn narrow(&self, d: &mut Domains) -> bool {
-        match self.fit(d) {
-            Ok(()) => infer(d, *self),
-            Err(_) => false,
+        self.fit(d).is_ok() && self.infer(d)
+    }
+}
+
+impl Implication {
+    // What an implication that fits says of the box.
+    fn infer(&self, d: &mut Domains) -> bool
+        requires { subject self.now < 64 }
+        ensures board { board d.new ≡ board d.old }
+        ensures model { model d.new ≡ narrowed (narrow (board d.old)) (entries self.now (model d.old)) (model d.old) }
+        ensures moved { Progress (board d.old) result (model d.old) (model d.new) }
+    {
+        match *self {
+            Implication::Excluded { sensor, s } => d.bar(s, only(sensor)),
+            Implication::Implies { sensor, s, t } => Link { sensor, s, t }.forward(d),
+            Implication::ImpliedBy { sensor, s, t } => Link { sensor, s, t }.backward(d),
         }
     }
 }
@@ -54,9 +80,7 @@ impl Rule for Implication {
 fn fit_excluded(d: &Domains, sensor: u8, s: u8) -> Result<(), Refusal>
     ensures { outcome result ≡ refusal (excluded_causes (board d.now) sensor s) }
 {
-    if sensor >= d.sensors() {
-        return Err(Refusal::Sensor);
-    }
+    d.fit_sensor(sensor)?;
     if s >= d.sets() {
         return Err(Refusal::Set);
     }
@@ -70,9 +94,7 @@ fn fit_excluded(d: &Domains, sensor: u8, s: u8) -> Result<(), Refusal>
 fn fit_linked(d: &Domains, sensor: u8, s: u8, t: u8) -> Result<(), Refusal>
     ensures { outcome result ≡ refusal (linked_causes (board d.now) sensor s t) }
 {
-    if sensor >= d.sensors() {
-        return Err(Refusal::Sensor);
-    }
+    d.fit_sensor(sensor)?;
     if s >= d.sets() || t >= d.sets() {
         return Err(Refusal::Set);
     }
@@ -82,104 +104,67 @@ fn fit_linked(d: &Domains, sensor: u8, s: u8, t: u8) -> Result<(), Refusal>
     Ok(())
 }
 
-// What an implication that fits says of the box.
-fn infer(d: &mut Domains, q: Implication) -> bool
-    requires { subject q < 64 }
-    ensures board { board d.new ≡ board d.old }
-    ensures model { model d.new ≡ narrowed (narrow (board d.old)) (entries q (model d.old)) (model d.old) }
-    ensures moved { Progress (board d.old) result (model d.old) (model d.new) }
-{
-    match q {
-        Implication::Excluded { sensor, s } => exclude(d, sensor, s),
-        Implication::Implies { sensor, s, t } => forward(d, sensor, s, t),
-        Implication::ImpliedBy { sensor, s, t } => backward(d, sensor, s, t),
+// A sensor with a set of sensors and a set of slots.
+#[derive(Clone, Copy)]
+pub(crate) struct Link {
+    pub(crate) sensor: u8,
+    pub(crate) s: u8,
+    pub(crate) t: u8,
+    ghost small: { sensor < 64 },
+}
+
+impl Link {
+    // Whether the sensor may be in s or not, and its slot in t or not: its implications then say nothing.
+    pub(crate) fn is_unsure(self, d: &Domains) -> bool
+        ensures { result ≡ unsure self.sensor self.s self.t (model d.now) }
+    {
+        let own = d.candidates(self.sensor);
+        !contains(d.lower(self.s), self.sensor)
+            && contains(d.upper(self.s), self.sensor)
+            && own & d.upper(self.t) != 0
+            && take_out(own, d.lower(self.t)) != 0
+    }
+
+    // A sensor surely in s has its slot in t; one that has no candidate for t is not in s.
+    // `backward` is the mirror image in every call: one function for both would take four steps as parameters, and be no plainer.
+    pub(crate) fn forward(self, d: &mut Domains) -> bool
+        ensures board { board d.new ≡ board d.old }
+        ensures model { model d.new ≡ narrowed (narrow (board d.old)) (implies_entries self.sensor self.s self.t (model d.old)) (model d.old) }
+        ensures moved { Progress (board d.old) result (model d.old) (model d.new) }
+    {
+        let left = d.candidates(self.sensor) & d.upper(self.t);
+        if !contains(d.lower(self.s), self.sensor) {
+            return left == 0 && d.bar(self.s, only(self.sensor));
+        }
+        let cut = d.limit(self.sensor, left);
+        if !is_single(left) {
+            return cut;
+        }
+        let sole = d.claim(self.t, left);
+        cut | sole
+    }
+
+    // A sensor surely not in s has its slot outside t; one whose candidates are all surely in t is in s.
+    pub(crate) fn backward(self, d: &mut Domains) -> bool
+        ensures board { board d.new ≡ board d.old }
+        ensures model { model d.new ≡ narrowed (narrow (board d.old)) (implied_by_entries self.sensor self.s self.t (model d.old)) (model d.old) }
+        ensures moved { Progress (board d.old) result (model d.old) (model d.new) }
+    {
+        let left = take_out(d.candidates(self.sensor), d.lower(self.t));
+        if contains(d.upper(self.s), self.sensor) {
+            return left == 0 && d.claim(self.s, only(self.sensor));
+        }
+        let cut = d.limit(self.sensor, left);
+        if !is_single(left) {
+            return cut;
+        }
+        let sole = d.bar(self.t, left);
+        cut | sole
     }
 }
 
-// The sensor is not in s.
-pub(crate) fn exclude(d: &mut Domains, sensor: u8, s: u8) -> bool
-    requires { sensor < 64 }
-    ensures board { board d.new ≡ board d.old }
-    ensures model { model d.new ≡ narrowed (narrow (board d.old)) (bar s (2 ^ sensor) ∷ []) (model d.old) }
-    ensures moved { Progress (board d.old) result (model d.old) (model d.new) }
-{
-    d.bar(s, only(sensor))
-}
-
-// Whether the sensor may be in s or not, and its slot in t or not: its implications then say nothing.
-pub(crate) fn is_unsure(d: &Domains, sensor: u8, s: u8, t: u8) -> bool
-    ensures { result ≡ unsure sensor s t (model d.now) }
-{
-    let own = d.candidates(sensor);
-    !contains(d.lower(s), sensor)
-        && contains(d.upper(s), sensor)
-        && own & d.upper(t) != 0
-        && take_out(own, d.lower(t)) != 0
-}
-
-// A sensor surely in s has its slot in t; one that has no candidate for t is not in s.
-pub(crate) fn forward(d: &mut Domains, sensor: u8, s: u8, t: u8) -> bool
-    requires { sensor < 64 }
-    ensures board { board d.new ≡ board d.old }
-    ensures model { model d.new ≡ narrowed (narrow (board d.old)) (implies_entries sensor s t (model d.old)) (model d.old) }
-    ensures moved { Progress (board d.old) result (model d.old) (model d.new) }
-{
-    let left = d.candidates(sensor) & d.upper(t);
-    if contains(d.lower(s), sensor) {
-        return confine(d, sensor, left, t, true);
-    }
-    if left == 0 {
-        return d.bar(s, only(sensor));
-    }
-    false
-}
-
-// A sensor surely not in s has its slot outside t; one whose candidates are all surely in t is in s.
-pub(crate) fn backward(d: &mut Domains, sensor: u8, s: u8, t: u8) -> bool
-    requires { sensor < 64 }
-    ensures board { board d.new ≡ board d.old }
-    ensures model { model d.new ≡ narrowed (narrow (board d.old)) (implied_by_entries sensor s t (model d.old)) (model d.old) }
-    ensures moved { Progress (board d.old) result (model d.old) (model d.new) }
-{
-    let left = take_out(d.candidates(sensor), d.lower(t));
-    if !contains(d.upper(s), sensor) {
-        return confine(d, sensor, left, t, false);
-    }
-    if left == 0 {
-        return d.claim(s, only(sensor));
-    }
-    false
-}
-
-// Leaves a sensor these candidates; if there is just one, it is in set t, or outside.
-fn confine(d: &mut Domains, sensor: u8, left: u64, t: u8, inside: bool) -> bool
-    ensures board { board d.new ≡ board d.old }
-    ensures model { model d.new ≡ narrowed (narrow (board d.old)) (confined (placed inside t) sensor left) (model d.old) }
-    ensures moved { Progress (board d.old) result (model d.old) (model d.new) }
-{
-    let cut = d.limit(sensor, left);
-    if !is_single(left) {
-        return cut;
-    }
-    let sole = place(d, inside, t, left);
-    cut | sole
-}
-
-// Takes the mask into set t, or out of it.
-fn place(d: &mut Domains, inside: bool, t: u8, mask: u64) -> bool
-    ensures board { board d.new ≡ board d.old }
-    ensures model { model d.new ≡ narrow (board d.old) (placed inside t mask) (model d.old) }
-    ensures moved { Progress (board d.old) result (model d.old) (model d.new) }
-{
-    if inside {
-        d.claim(t, mask)
-    } else {
-        d.bar(t, mask)
-    }
-}
-
-// The mask of one sensor.
-fn only(sensor: u8) -> u64
+// The mask of one sensor. It asks for a number below 64, where `single` of covering counts modulo 64.
+pub(crate) fn only(sensor: u8) -> u64
     requires { sensor < 64 }
     ensures { result ≡ 2 ^ sensor }
 {

@@ -27,7 +27,8 @@ pub trait Rule {
     fn fit(&self, d: &Domains) -> Result<(), Refusal>
         ensures { outcome result ≡ fault (board d.now) self.now };
 
-    // Runs the rule, in place; whether that changed the box. A rule that does not fit changes nothing.
+    // Runs the rule, in place; whether that changed the box. A rule that does not fit changes nothing. Each kind asks its fit itself: a body here
+    // would call a public method that requires it.
     fn narrow(&self, d: &mut Domains) -> bool
         ensures board { board d.new ≡ board d.old }
         ensures model { model d.new ≡ asked fault run (board d.old) self.now (model d.old) }

@@ -1,7 +1,7 @@
 #![tactic(auto)]
 
 // A small job from start to finish: a board is described, entries are made and rules posted, the plan is settled and listed.
-use anyhow::anyhow;
+use anyhow::Context;
 use board::refusal::Refusal;
 use kinds::SheetRule;
 use named::values::all_different;
@@ -13,17 +13,18 @@ use sets::within::Within;
 use text::listing::LONGEST_LISTING;
 
 fn main(rt: HostRuntime) -> anyhow::Result<()> {
-    let mut places = [SheetRule::Row(Row { a: 0 }); 8];
+    let mut places = [SheetRule::default(); 8];
     let mut draft = Draft::begin(&mut places);
     describe(&rt, &mut draft)?;
     enter(&rt, &mut draft)?;
     let settled = draft.settle();
     rt.println("settled")?;
     let mut out = [0u8; LONGEST_LISTING];
-    let Ok(end) = settled.listing(&mut out) else {
-        return Err(anyhow!("the output is too short"));
-    };
-    print_text(&rt, &out, end)
+    let end = settled
+        .listing(&mut out)
+        .context("the output is too short")?;
+    rt.print(std::str::from_utf8(&out[..end])?)?;
+    Ok(())
 }
 
 // Four sensors and five slots. Sets 0 and 1 hold sensors: those on the fast bus, and those that are sampled together. Set 2 holds slots: the fast ones.
@@ -87,19 +88,7 @@ fn enter(rt: &impl Print, draft: &mut Draft<'_, SheetRule>) -> anyhow::Result<()
 fn tell(rt: &impl Print, action: &str, answer: Result<(), Refusal>) -> anyhow::Result<()> {
     match answer {
         Ok(()) => println!(rt; "{action}: accepted")?,
-        Err(refusal) => {
-            let number = refusal.number();
-            println!(rt; "{action}: refused {number}")?
-        }
+        Err(refusal) => println!(rt; "{action}: refused {refusal}")?,
     }
-    Ok(())
-}
-
-fn print_text(rt: &impl Print, out: &[u8], end: usize) -> anyhow::Result<()> {
-    if end > out.len() {
-        return Err(anyhow!("the listing has no end"));
-    }
-    let text = std::str::from_utf8(&out[0..end])?;
-    rt.print(text)?;
     Ok(())
 }

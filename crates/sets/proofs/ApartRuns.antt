@@ -14,15 +14,19 @@ use Rattle.model.proofs.Cuts.{bar-at, bar-low, bar-there}
 use Rattle.model.proofs.Entries.{entry-narrows}
 use Rattle.model.proofs.Narrowing.{entries-tight, narrow_cut, narrowed-cut}
 use Rattle.model.proofs.Witness.{covers, put_other, put_same, raise, raised, set-made}
-use Rattle.sets.specs.Aparts.{apart_entries}
-use Rattle.sets.proofs.Fitting.{Pair}
+use Rattle.board.specs.Model.{board, model}
+use Rattle.board.proofs.Shapes.{some, is-kept}
+use Rattle.board.specs.declared.domains.Domains.{Domains}
+use Rattle.sets.specs.Aparts.{apart_entries, apart_fault, apart_run}
+use Rattle.sets.specs.declared.apart.Apart.{Apart}
+use Rattle.sets.proofs.Fitting.{Pair, pair_fits}
 
 abbrev none : ℕ → ℕ → Type 0
 none s t = eqb (bit_and s t) 0 ≡ true
 
 module _ (bd : Board) (some : 0 < bd.sensors) (a b : ℕ) (on : Pair bd a b) (x : Box) (k : Kept bd x) where
   abbrev es : List Entry
-  es = apart_entries a b x
+  es = apart_entries (record { a = a; b = b }) x
 
   abbrev r : Box
   r = narrowed (narrow bd) es x
@@ -92,3 +96,7 @@ module _ (bd : Board) (some : 0 < bd.sensors) (a b : ℕ) (on : Pair bd a b) (x 
 
   pub apart-tight : r ≡ tight bd ok x
   apart-tight = entries-tight bd some ok es x k sound complete
+
+-- in a stored box, where the rule fits
+pub apart_runs : (d : Domains) (r : Apart) → apart_fault (board d) r ≡ 0 → narrowed (narrow (board d)) (apart_entries r (model d)) (model d) ≡ apart_run (board d) r (model d)
+apart_runs d r z = apart-tight (board d) (some d) r.a r.b (pair_fits (board d) r.a r.b z) (model d) (is-kept d)

@@ -15,8 +15,12 @@ use Rattle.model.specs.Entries.{narrow, narrowed}
 use Rattle.model.specs.Layout.{set_of}
 use Rattle.model.specs.Tight.{tight}
 use Rattle.model.proofs.OneSet.{Spread, one-tight}
-use Rattle.sets.specs.Counts.{count_entries, count_in, count_out, counted}
-use Rattle.sets.proofs.Fitting.{Range}
+use Rattle.board.specs.Model.{board, model}
+use Rattle.board.proofs.Shapes.{some, is-kept}
+use Rattle.board.specs.declared.domains.Domains.{Domains}
+use Rattle.sets.specs.Counts.{count_entries, count_in, count_out, counted, count_fault, count_run}
+use Rattle.sets.specs.declared.count.Count.{Count}
+use Rattle.sets.proofs.Fitting.{Range, count_fits}
 
 -- where lo is hi, or each may still change by one member, every choice is supported
 spread : (least most k l h : ℕ) → least ≤ most → within l h ≡ true → ones l ≤ most → least ≤ ones h
@@ -164,10 +168,14 @@ module _ (least most : ℕ) (o : least ≤ most) (s : most ≤ 64) (l h : ℕ) w
 -- ---- the tight box
 
 pub count-tight : (bd : Board) (some : 0 < bd.sensors) (a least most : ℕ) → Range bd a least most → (x : Box) (k : Kept bd x)
-    → narrowed (narrow bd) (count_entries a least most x) x ≡ tight bd (λ y. counted least most (set_of y a)) x
+    → narrowed (narrow bd) (count_entries (record { a = a; least = least; most = most }) x) x ≡ tight bd (λ y. counted least most (set_of y a)) x
 count-tight bd some a least most f x k =
     one-tight bd some a f.known (counted least most) (count_out (lo x a) (hi x a) most) (count_in (hi x a) least) x k
     (λ m _ p q e.
     let w = and_parts _ _ e in
     (keeps-out least most f.ordered f.bounded (lo x a) (hi x a) m p q (leb-true (ones m) most w.1), keeps-in least most f.ordered f.bounded (lo x a) (hi x a) m q (leb-true least (ones m) w.0)))
     (λ l v. left least most f.ordered f.bounded (lo x a) (hi x a) (room bd a) (l.bounds a f.known) v)
+
+-- in a stored box, where the rule fits
+pub count_runs : (d : Domains) (r : Count) → count_fault (board d) r ≡ 0 → narrowed (narrow (board d)) (count_entries r (model d)) (model d) ≡ count_run (board d) r (model d)
+count_runs d r z = count-tight (board d) (some d) r.a r.least r.most (count_fits (board d) r.a r.least r.most z) (model d) (is-kept d)

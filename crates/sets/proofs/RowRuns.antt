@@ -16,7 +16,12 @@ use Rattle.model.specs.Layout.{set_of}
 use Rattle.model.specs.Tight.{tight}
 use Rattle.model.proofs.Lists.{every-at, every-from}
 use Rattle.model.proofs.OneSet.{Spread, ends-spread, one-tight}
-use Rattle.sets.specs.Rows.{block, gapless, is_row, row_entries, row_in, row_out}
+use Rattle.board.specs.Model.{board, model}
+use Rattle.board.proofs.Shapes.{some, is-kept}
+use Rattle.board.specs.declared.domains.Domains.{Domains}
+use Rattle.sets.specs.Rows.{block, gapless, is_row, row_entries, row_in, row_out, row_fault, row_run}
+use Rattle.sets.proofs.Fitting.{set-fits, room_small}
+use Rattle.sets.specs.declared.row.Row.{Row}
 
 -- ---- what a row is
 
@@ -280,8 +285,12 @@ module _ (k : ℕ) (kk : k ≤ 64) (l h : ℕ) where
           ap (is_row k) (one_has h u o (first-has h h (small h) (ne_eqb h 0 n))) ∙ single-row k u
 
 pub row-tight : (bd : Board) (some : 0 < bd.sensors) (a : ℕ) → a < bd.sets → room bd a ≤ 64 → (x : Box) (k : Kept bd x)
-    → narrowed (narrow bd) (row_entries a x) x ≡ tight bd (λ y. is_row (room bd a) (set_of y a)) x
+    → narrowed (narrow bd) (row_entries (record { a = a }) x) x ≡ tight bd (λ y. is_row (room bd a) (set_of y a)) x
 row-tight bd some a ha kk x k =
     one-tight bd some a ha (is_row (room bd a)) (row_out (lo x a) (hi x a)) (row_in (lo x a) (hi x a)) x k
     (keeps-both (room bd a) kk (lo x a) (hi x a))
     (λ l v. left (room bd a) kk (lo x a) (hi x a) (l.highs_on a ha) (l.bounds a ha) v)
+
+-- in a stored box, where the rule fits
+pub row_runs : (d : Domains) (r : Row) → row_fault (board d) r ≡ 0 → narrowed (narrow (board d)) (row_entries r (model d)) (model d) ≡ row_run (board d) r (model d)
+row_runs d r z = row-tight (board d) (some d) r.a (set-fits (board d) r.a z) (room_small d r.a) (model d) (is-kept d)

@@ -16,12 +16,16 @@ use Rattle.model.proofs.Cuts.{bar-at, bar-low, bar-there, claim-at, claim-high, 
 use Rattle.model.proofs.Entries.{entry-narrows}
 use Rattle.model.proofs.Narrowing.{entries-tight, narrow_cut, narrowed-cut}
 use Rattle.model.proofs.Witness.{covers, hi-fills, lo-fills, set-made}
-use Rattle.sets.specs.Withins.{within_entries}
-use Rattle.sets.proofs.Fitting.{Pair}
+use Rattle.board.specs.Model.{board, model}
+use Rattle.board.proofs.Shapes.{some, is-kept}
+use Rattle.board.specs.declared.domains.Domains.{Domains}
+use Rattle.sets.specs.Withins.{within_entries, within_fault, within_run}
+use Rattle.sets.proofs.Fitting.{Pair, pair_fits}
+use Rattle.sets.specs.declared.within.Within.{Within}
 
 module _ (bd : Board) (some : 0 < bd.sensors) (a b : ℕ) (on : Pair bd a b) (x : Box) (k : Kept bd x) where
   abbrev es : List Entry
-  es = within_entries a b x
+  es = within_entries (record { a = a; b = b }) x
 
   abbrev r : Box
   r = narrowed (narrow bd) es x
@@ -90,3 +94,7 @@ module _ (bd : Board) (some : 0 < bd.sensors) (a b : ℕ) (on : Pair bd a b) (x 
 
   pub within-tight : r ≡ tight bd ok x
   within-tight = entries-tight bd some ok es x k sound complete
+
+-- in a stored box, where the rule fits
+pub within_runs : (d : Domains) (r : Within) → within_fault (board d) r ≡ 0 → narrowed (narrow (board d)) (within_entries r (model d)) (model d) ≡ within_run (board d) r (model d)
+within_runs d r z = within-tight (board d) (some d) r.a r.b (pair_fits (board d) r.a r.b z) (model d) (is-kept d)

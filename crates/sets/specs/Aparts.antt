@@ -19,5 +19,5 @@ abbrev pub apart_run : Board → Apart → Box → Box
 apart_run bd r = tight bd (apart_holds bd r)
 
 -- what the run enters: each loses what the other surely has
-abbrev pub apart_entries : ℕ → ℕ → Box → List Entry
-apart_entries a b x = bar a (lo x b) ∷ bar b (lo x a) ∷ []
+abbrev pub apart_entries : Apart → Box → List Entry
+apart_entries r x = bar r.a (lo x r.b) ∷ bar r.b (lo x r.a) ∷ []

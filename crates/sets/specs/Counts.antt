@@ -35,5 +35,5 @@ count_out l h most = cond (nat_lt (count_ones l) most) 0 (cond (count_ones l == 
 unfoldable pub count_in : ℕ → ℕ → ℕ
 count_in h least = cond (nat_lt least (count_ones h)) 0 (cond (count_ones h == least) h (2 ^ 64 - 1))
 
-abbrev pub count_entries : ℕ → ℕ → ℕ → Box → List Entry
-count_entries a least most x = bound_entries a (count_out (lo x a) (hi x a) most) (count_in (hi x a) least)
+abbrev pub count_entries : Count → Box → List Entry
+count_entries r x = bound_entries r.a (count_out (lo x r.a) (hi x r.a) r.most) (count_in (hi x r.a) r.least)

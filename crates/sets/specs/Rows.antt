@@ -40,5 +40,5 @@ row_out l h = cond (l == 0) 0 (without h (block l h))
 unfoldable pub row_in : ℕ → ℕ → ℕ
 row_in l h = cond (l == 0) (cond (h == 0) (2 ^ 64 - 1) (cond (count_ones h == 1) h 0)) (stretch (lowest l) (past l))
 
-abbrev pub row_entries : ℕ → Box → List Entry
-row_entries a x = bound_entries a (row_out (lo x a) (hi x a)) (row_in (lo x a) (hi x a))
+abbrev pub row_entries : Row → Box → List Entry
+row_entries r x = bound_entries r.a (row_out (lo x r.a) (hi x r.a)) (row_in (lo x r.a) (hi x r.a))

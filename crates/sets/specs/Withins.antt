@@ -20,5 +20,5 @@ abbrev pub within_run : Board → Within → Box → Box
 within_run bd r = tight bd (within_holds bd r)
 
 -- what the run enters: A loses what B cannot have, B gains what A surely has
-abbrev pub within_entries : ℕ → ℕ → Box → List Entry
-within_entries a b x = bar a (without (hi x a) (hi x b)) ∷ claim b (lo x a) ∷ []
+abbrev pub within_entries : Within → Box → List Entry
+within_entries r x = bar r.a (without (hi x r.a) (hi x r.b)) ∷ claim r.b (lo x r.a) ∷ []

@@ -11,6 +11,7 @@ use board::refusal::Refusal;
 use rule::Rule;
 
 // Sets a and b share no member.
+// Each kind has a file of one shape. It differs from Within in the relation.
 #[derive(Clone, Copy)]
 pub struct Apart {
     pub a: u8,
@@ -32,23 +33,23 @@ impl Rule for Apart {
         fit_pair(d, self.a, self.b)
     }
 
+    #[tactic(auto, using(crate::proofs::ApartRuns::apart_runs), unfolding(model::specs::Laws::asked))]
     fn narrow(&self, d: &mut Domains) -> bool {
-        match self.fit(d) {
-            Ok(()) => part(d, self.a, self.b),
-            Err(_) => false,
-        }
+        self.fit(d).is_ok() && self.part(d)
     }
 }
 
-// Each set loses what the other surely has.
-fn part(d: &mut Domains, a: u8, b: u8) -> bool
-    ensures board { board d.new ≡ board d.old }
-    ensures model { model d.new ≡ narrowed (narrow (board d.old)) (apart_entries a b (model d.old)) (model d.old) }
-    ensures moved { Progress (board d.old) result (model d.old) (model d.new) }
-{
-    let sure_a = d.lower(a);
-    let sure_b = d.lower(b);
-    let cut_a = d.bar(a, sure_b);
-    let cut_b = d.bar(b, sure_a);
-    cut_a | cut_b
+impl Apart {
+    // Each set loses what the other surely has.
+    fn part(&self, d: &mut Domains) -> bool
+        ensures board { board d.new ≡ board d.old }
+        ensures model { model d.new ≡ narrowed (narrow (board d.old)) (apart_entries self.now (model d.old)) (model d.old) }
+        ensures moved { Progress (board d.old) result (model d.old) (model d.new) }
+    {
+        let sure_a = d.lower(self.a);
+        let sure_b = d.lower(self.b);
+        let cut_a = d.bar(self.a, sure_b);
+        let cut_b = d.bar(self.b, sure_a);
+        cut_a | cut_b
+    }
 }

@@ -13,6 +13,7 @@ use masks::take_out;
 use rule::Rule;
 
 // Set a has least to most members.
+// Each kind has a file of one shape. It differs from Row in the relation.
 #[derive(Clone, Copy)]
 pub struct Count {
     pub a: u8,
@@ -39,26 +40,32 @@ impl Rule for Count {
         Ok(())
     }
 
+    #[tactic(auto, using(crate::proofs::CountRuns::count_runs), unfolding(model::specs::Laws::asked))]
     fn narrow(&self, d: &mut Domains) -> bool {
-        match self.fit(d) {
-            Ok(()) => fill(d, self.a, self.least, self.most),
-            Err(_) => false,
-        }
+        self.fit(d).is_ok() && self.fill(d)
     }
 }
 
-// Set a takes no more once it has the most, and all it can once that is the least.
-fn fill(d: &mut Domains, a: u8, least: u8, most: u8) -> bool
-    ensures board { board d.new ≡ board d.old }
-    ensures model { model d.new ≡ narrowed (narrow (board d.old)) (count_entries a least most (model d.old)) (model d.old) }
-    ensures moved { Progress (board d.old) result (model d.old) (model d.new) }
-{
-    let lo = d.lower(a);
-    let hi = d.upper(a);
-    bound(d, a, surplus(lo, hi, most), lacking(hi, least))
+impl Count {
+    // Set a takes no more once it has the most, and all it can once that is the least.
+    fn fill(&self, d: &mut Domains) -> bool
+        ensures board { board d.new ≡ board d.old }
+        ensures model { model d.new ≡ narrowed (narrow (board d.old)) (count_entries self.now (model d.old)) (model d.old) }
+        ensures moved { Progress (board d.old) result (model d.old) (model d.new) }
+    {
+        let lo = d.lower(self.a);
+        let hi = d.upper(self.a);
+        bound(
+            d,
+            self.a,
+            surplus(lo, hi, self.most),
+            lacking(hi, self.least),
+        )
+    }
 }
 
 // What the upper bound must lose: all but the lower one where that has the most already, all where it has more.
+#[tactic(auto, unfolding(crate::specs::Counts::count_out))]
 fn surplus(lo: u64, hi: u64, most: u8) -> u64
     ensures { result ≡ count_out lo hi most }
 {
@@ -73,6 +80,7 @@ fn surplus(lo: u64, hi: u64, most: u8) -> u64
 }
 
 // What the lower bound must gain: the upper one where that has just the least, every number where it has fewer.
+#[tactic(auto, unfolding(crate::specs::Counts::count_in))]
 fn lacking(hi: u64, least: u8) -> u64
     ensures { result ≡ count_in hi least }
 {

@@ -11,11 +11,7 @@ use board::refusal::Refusal;
 pub fn fit_set(d: &Domains, a: u8) -> Result<(), Refusal>
     ensures { outcome result ≡ refusal (set_causes (board d.now) a) }
 {
-    if a < d.sets() {
-        Ok(())
-    } else {
-        Err(Refusal::Set)
-    }
+    d.fit_set(a)
 }
 
 // Whether two sets of one kind are named.

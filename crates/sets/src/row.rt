@@ -13,6 +13,7 @@ use masks::{is_single, lowest, past, stretch, take_out};
 use rule::Rule;
 
 // Set a has members, and they are consecutive numbers.
+// Each kind has a file of one shape. It differs from Count in the relation.
 #[derive(Clone, Copy)]
 pub struct Row {
     pub a: u8,
@@ -33,26 +34,27 @@ impl Rule for Row {
         fit_set(d, self.a)
     }
 
+    #[tactic(auto, using(crate::proofs::RowRuns::row_runs), unfolding(model::specs::Laws::asked))]
     fn narrow(&self, d: &mut Domains) -> bool {
-        match self.fit(d) {
-            Ok(()) => close(d, self.a),
-            Err(_) => false,
-        }
+        self.fit(d).is_ok() && self.close(d)
     }
 }
 
-// Set a gains what lies between its members, and loses what no row through them reaches.
-fn close(d: &mut Domains, a: u8) -> bool
-    ensures board { board d.new ≡ board d.old }
-    ensures model { model d.new ≡ narrowed (narrow (board d.old)) (row_entries a (model d.old)) (model d.old) }
-    ensures moved { Progress (board d.old) result (model d.old) (model d.new) }
-{
-    let lo = d.lower(a);
-    let hi = d.upper(a);
-    bound(d, a, out_of_reach(lo, hi), inner(lo, hi))
+impl Row {
+    // Set a gains what lies between its members, and loses what no row through them reaches.
+    fn close(&self, d: &mut Domains) -> bool
+        ensures board { board d.new ≡ board d.old }
+        ensures model { model d.new ≡ narrowed (narrow (board d.old)) (row_entries self.now (model d.old)) (model d.old) }
+        ensures moved { Progress (board d.old) result (model d.old) (model d.new) }
+    {
+        let lo = d.lower(self.a);
+        let hi = d.upper(self.a);
+        bound(d, self.a, out_of_reach(lo, hi), inner(lo, hi))
+    }
 }
 
 // The members of the upper bound that no row through the lower one reaches.
+#[tactic(auto, unfolding(crate::specs::Rows::row_out))]
 fn out_of_reach(lo: u64, hi: u64) -> u64
     ensures { result ≡ row_out lo hi }
 {
@@ -66,6 +68,7 @@ fn out_of_reach(lo: u64, hi: u64) -> u64
 
 // What every row between the bounds has: what lies between the members of the lower one. Where it has none, the one member of the upper one;
 // and where that has none, so that there is no row, every number.
+#[tactic(auto, unfolding(crate::specs::Rows::row_in))]
 fn inner(lo: u64, hi: u64) -> u64
     ensures { result ≡ row_in lo hi }
 {

@@ -12,6 +12,7 @@ use masks::take_out;
 use rule::Rule;
 
 // Set a lies in set b.
+// Each kind has a file of one shape. It differs from Apart in the relation.
 #[derive(Clone, Copy)]
 pub struct Within {
     pub a: u8,
@@ -33,23 +34,23 @@ impl Rule for Within {
         fit_pair(d, self.a, self.b)
     }
 
+    #[tactic(auto, using(crate::proofs::WithinRuns::within_runs), unfolding(model::specs::Laws::asked))]
     fn narrow(&self, d: &mut Domains) -> bool {
-        match self.fit(d) {
-            Ok(()) => squeeze(d, self.a, self.b),
-            Err(_) => false,
-        }
+        self.fit(d).is_ok() && self.squeeze(d)
     }
 }
 
-// Set a loses what b cannot have, and b gains what a surely has.
-fn squeeze(d: &mut Domains, a: u8, b: u8) -> bool
-    ensures board { board d.new ≡ board d.old }
-    ensures model { model d.new ≡ narrowed (narrow (board d.old)) (within_entries a b (model d.old)) (model d.old) }
-    ensures moved { Progress (board d.old) result (model d.old) (model d.new) }
-{
-    let outside = take_out(d.upper(a), d.upper(b));
-    let sure = d.lower(a);
-    let cut = d.bar(a, outside);
-    let raised = d.claim(b, sure);
-    cut | raised
+impl Within {
+    // Set a loses what b cannot have, and b gains what a surely has.
+    fn squeeze(&self, d: &mut Domains) -> bool
+        ensures board { board d.new ≡ board d.old }
+        ensures model { model d.new ≡ narrowed (narrow (board d.old)) (within_entries self.now (model d.old)) (model d.old) }
+        ensures moved { Progress (board d.old) result (model d.old) (model d.new) }
+    {
+        let outside = take_out(d.upper(self.a), d.upper(self.b));
+        let sure = d.lower(self.a);
+        let cut = d.bar(self.a, outside);
+        let raised = d.claim(self.b, sure);
+        cut | raised
+    }
 }

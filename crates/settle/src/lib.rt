@@ -30,13 +30,13 @@ fn round<R: Rule>(rules: &[R], d: &mut Domains) -> bool
 {
     let mut changed = false;
     for rule in rules {
-        let moved = step(rule, d);
-        changed = changed | moved;
+        changed |= step(rule, d);
     }
     changed
 }
 
 // One rule, if it fits. A dead box has nothing to lose.
+#[tactic(auto, unfolding(model::specs::Laws::asked))]
 fn step<R: Rule>(rule: &R, d: &mut Domains) -> bool
     ensures board { board d.new ≡ board d.old }
     ensures model { model d.new ≡ asked R.fault R.run (board d.old) rule.now (model d.old) }
@@ -45,8 +45,5 @@ fn step<R: Rule>(rule: &R, d: &mut Domains) -> bool
     if d.is_dead() {
         return false;
     }
-    match rule.fit(d) {
-        Ok(()) => rule.narrow(d),
-        Err(_) => false,
-    }
+    rule.fit(d).is_ok() && rule.narrow(d)
 }

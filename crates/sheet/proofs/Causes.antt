@@ -1,6 +1,7 @@
 -- Each refusal of the reader has its cause.
-use Rattle.std.proofs.Common.{◌≡◌, ℕ, zero, suc, ◌+◌, ◌-◌, ◌*◌, ◌<◌, ◌≤◌, Bool, true, false, cond, eqb, ltb, leb, ◌⊎◌, List, [], ◌∷◌, length, get_or, take, drop, Some, None, Ok, Err, MatchBool, Option, Result, sym, refl, ap, ◌∙◌, subst, inl, inr, arith, length-append, length-drop, length-take}
+use Rattle.std.proofs.Common.{◌≡◌, ℕ, suc, ◌+◌, ◌-◌, ◌*◌, ◌<◌, ◌≤◌, Bool, true, false, cond, eqb, ltb, leb, ◌⊎◌, List, [], ◌∷◌, length, get_or, take, drop, Some, None, Ok, Err, MatchBool, Option, Result, sym, refl, ap, ◌∙◌, subst, inl, inr, arith, length-append, length-drop, length-take}
 use Rattle.std.proofs.lemmas.List.{get_or-take, get_or-drop}
+use Rattle.std.proofs.lemmas.List.Folds.{list_all_at}
 use Rattle.std.proofs.lemmas.Bool.{cases_eq, cases_lt, cases_Bool, eq-eqb, ne_eqb, eqb-true, le-leb, lt-leb, lt-ltb, le-ltb, cond-true, cond-false, cond_both, both_ways}
 use Rattle.std.proofs.lemmas.Bool.Decides.{nat_tests}
 use Rattle.sheet.specs.Layout.{Rec, head, name, limit, claim, bar, range, roots, within, apart, count, row, word_width, mask_width, digits, inner, encode, flaw_of, longest, known, least, greatest, sized, plain_byte, plain, flaw, ruled, parsed, inside, counted, taking, decode, headed}
@@ -24,17 +25,12 @@ byte-odd b (inl h) = grind (arith, nat_tests)
 byte-odd b (inr h) = grind (arith, nat_tests)
 
 plain-odd : (t : List ℕ) (i : ℕ) → i < length t → Odd (get_or t i 0) → plain t ≡ false
-plain-odd [] i h o = absurd (omega arith)
-plain-odd (b ∷ bs) zero h o = cond-false (plain_byte b) (plain bs) false (byte-odd b o)
-plain-odd (b ∷ bs) (suc i) h o = elim (cases_Bool (plain_byte b)) [
-  | inl e ↦ cond-true (plain_byte b) (plain bs) false e ∙ plain-odd bs i (omega arith) o
-  | inr e ↦ cond-false (plain_byte b) (plain bs) false e
-]
+plain-odd t i h o = list_all_at plain_byte t i 0 h (byte-odd (get_or t i 0) o)
 
 odd-plain : (t : List ℕ) → plain t ≡ false → (i : ℕ) × (i < length t) × Odd (get_or t i 0)
-odd-plain [] h = (0, absurd (let z : ◌≡◌ {A = ℕ} 0 1 = cc in omega arith), absurd (let z : ◌≡◌ {A = ℕ} 0 1 = cc in omega arith))
+odd-plain [] h = cc
 odd-plain (b ∷ bs) h = elim (cases_Bool (plain_byte b)) [
-  | inl e ↦ (let o = odd-plain bs (sym (cond-true (plain_byte b) (plain bs) false e) ∙ h) in (suc o.0, omega (arith, o.1), o.2))
+  | inl e ↦ (let o = odd-plain bs (rw e at h) in (suc o.0, omega (arith, o.1), o.2))
   | inr e ↦ (0, omega arith, odd_byte b e)
 ]
 

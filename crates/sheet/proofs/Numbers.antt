@@ -1,10 +1,8 @@
 -- Numbers as bytes, for any width.
-use Rattle.std.proofs.Common.{◌≡◌, ℕ, zero, suc, ◌+◌, ◌-◌, ◌*◌, ◌/◌, ◌%◌, ◌^◌, ◌<◌, ◌≤◌, min, List, [], ◌∷◌, length, get_or, take, drop, sym, refl, ap, ◌∙◌, inl, inr, mod-eq_of_lt, mul_assoc, arith, length-take}
+use Rattle.std.proofs.Common.{◌≡◌, ℕ, zero, suc, ◌+◌, ◌*◌, ◌/◌, ◌%◌, ◌^◌, ◌<◌, ◌≤◌, List, [], ◌∷◌, length, get_or, take, drop, sym, refl, ap, ◌∙◌, mod-eq_of_lt, mul_assoc, arith, length-take}
 use native.Mathlib.Nat.{mul-add-div_right, mul-add-mod_self_right, pow-succ', pow-le-pow_right}
 use lib.Arith.{mod-mul, digits_div, digits_lt}
-use Rattle.std.proofs.lemmas.List.{drop_more, drop_all, take_all}
-use Rattle.std.proofs.lemmas.Slice.{between_to_end}
-use Rattle.std.proofs.lemmas.Bool.{cases_lt}
+use Rattle.std.proofs.lemmas.List.{drop_more}
 use Rattle.std.proofs.ByRecursion.{All-take}
 use Rattle.sheet.specs.Layout.{value, digits, Bytes, word_width, mask_width}
 
@@ -16,13 +14,6 @@ items xs i (suc n) = get_or xs i 0 ∷ items xs (i + 1) n
 pub take-items : (xs : List ℕ) (i n : ℕ) → i + n ≤ length xs → take n (drop i xs) ≡ items xs i n
 take-items xs i zero h = refl
 take-items xs i (suc n) h = ap (take (suc n)) (drop_more xs i 0 (omega arith)) ∙ ap (λ t. get_or xs i 0 ∷ t) (take-items xs (i + 1) n (omega arith))
-
--- a part that begins no later than the end, as the code takes it
-pub part-from : (xs : List ℕ) (at m : ℕ) → m ≡ min at (length xs) → take (length xs - m) (drop m xs) ≡ drop at xs
-part-from xs at m e = between_to_end xs m (length xs) (omega arith) ∙ (elim (cases_lt at (length xs)) [
-  | inl h ↦ (let s : m ≡ at = omega arith in ap (λ k. drop k xs) s)
-  | inr h ↦ drop_all m xs (omega arith) ∙ sym (drop_all at xs h)
-])
 
 pub length_digits : (n x : ℕ) → length (digits n x) ≡ n
 length_digits zero x = refl
@@ -69,18 +60,11 @@ digits_value (x ∷ xs) b =
     let rest : digits (length xs) (x * p + value xs) ≡ xs = digits-add (length xs) x (value xs) ∙ digits_value xs b.1 in
     cc
 
--- a part that ends no later than the end, as the code takes it
-pub part-to : (xs : List ℕ) (n m : ℕ) → m ≡ min n (length xs) → take m xs ≡ take n xs
-part-to xs n m e = elim (cases_lt n (length xs)) [
-  | inl h ↦ (let s : m ≡ n = omega arith in ap (λ k. take k xs) s)
-  | inr h ↦ take_all m xs (omega arith) ∙ sym (take_all n xs h)
-]
-
 -- the bytes of a word and of a mask, as the code makes them
 pub word_bytes : (x : ℕ) (bs : List ℕ) → bs ≡ (x / 16777216 % 256) ∷ (x / 65536 % 256) ∷ (x / 256 % 256) ∷ (x % 256) ∷ [] → bs ≡ digits word_width x
 unfolding word_width
 word_bytes x bs e = let z : x / 1 ≡ x = omega arith in e ∙ ap (λ t. (x / 16777216 % 256) ∷ (x / 65536 % 256) ∷ (x / 256 % 256) ∷ (t % 256) ∷ []) (sym z)
 
-pub mask-bytes : (x : ℕ) (bs : List ℕ) → bs ≡ (x / 72057594037927936 % 256) ∷ (x / 281474976710656 % 256) ∷ (x / 1099511627776 % 256) ∷ (x / 4294967296 % 256) ∷ (x / 16777216 % 256) ∷ (x / 65536 % 256) ∷ (x / 256 % 256) ∷ (x % 256) ∷ [] → bs ≡ digits mask_width x
+pub mask_bytes : (x : ℕ) (bs : List ℕ) → bs ≡ (x / 72057594037927936 % 256) ∷ (x / 281474976710656 % 256) ∷ (x / 1099511627776 % 256) ∷ (x / 4294967296 % 256) ∷ (x / 16777216 % 256) ∷ (x / 65536 % 256) ∷ (x / 256 % 256) ∷ (x % 256) ∷ [] → bs ≡ digits mask_width x
 unfolding mask_width
-mask-bytes x bs e = let z : x / 1 ≡ x = omega arith in e ∙ ap (λ t. (x / 72057594037927936 % 256) ∷ (x / 281474976710656 % 256) ∷ (x / 1099511627776 % 256) ∷ (x / 4294967296 % 256) ∷ (x / 16777216 % 256) ∷ (x / 65536 % 256) ∷ (x / 256 % 256) ∷ (t % 256) ∷ []) (sym z)
+mask_bytes x bs e = let z : x / 1 ≡ x = omega arith in e ∙ ap (λ t. (x / 72057594037927936 % 256) ∷ (x / 281474976710656 % 256) ∷ (x / 1099511627776 % 256) ∷ (x / 4294967296 % 256) ∷ (x / 16777216 % 256) ∷ (x / 65536 % 256) ∷ (x / 256 % 256) ∷ (t % 256) ∷ []) (sym z)

@@ -1,13 +1,16 @@
 -- Pieces laid over an output.
-use Rattle.std.proofs.Common.{◌≡◌, ℕ, ◌+◌, ◌-◌, ◌/◌, ◌%◌, ◌<◌, ◌≤◌, Bool, true, false, cond, leb, List, [], ◌∷◌, ◌++◌, length, take, drop, Some, None, Ok, Err, Option, Result, sym, refl, ap, ◌∙◌, append_assoc, arith, length-append, length-take}
+use Rattle.std.proofs.Common.{◌≡◌, ℕ, ◌+◌, ◌-◌, ◌/◌, ◌%◌, ◌<◌, ◌≤◌, Bool, true, false, cond, leb, List, [], ◌∷◌, ◌++◌, length, get_or, take, drop, Some, None, Ok, Err, Option, Result, sym, refl, ap, ◌∙◌, append_assoc, arith, length-append, length-take}
 use borrow.Rule.Slice.PartMut.{put_mid}
 use Rattle.std.proofs.lemmas.List.{drop-drop, take_at, drop_at}
 use Rattle.std.proofs.lemmas.Bool.{leb-true, le-leb, lt-leb, cond-true, cond-false}
-use Rattle.sheet.specs.Layout.{Rec, flaw, flaw_of, ruled, framed, encode}
-use Rattle.sheet.specs.Steps.{laid, placed, putting, wrote}
+use Rattle.sheet.specs.declared.format.Cause.{Cause}
+use Rattle.sheet.specs.declared.writer.Writer.{Writer}
+use Rattle.sheet.specs.Layout.{flaw, ruled, framed}
+use Rattle.sheet.specs.Steps.{laid, placed, putting, refused, refusal, place_now, laid_over}
+use Rattle.sheet.specs.Files.{bytes_of, grown, Puts}
 
-pub laid-part : (out piece new : List ℕ) (at : ℕ) → new ≡ piece → put_mid at (at + length piece - at) out new ≡ laid out at piece
-laid-part out piece new at e =
+pub laid_part : (out piece new : List ℕ) (at : ℕ) → new ≡ piece → put_mid at (at + length piece - at) out new ≡ laid out at piece
+laid_part out piece new at e =
     let n : at + length piece - at ≡ length piece = omega arith in
     ap (λ m. take at out ++ (new ++ drop m (drop at out))) n ∙ ap (λ u. take at out ++ (new ++ u)) (drop-drop (length piece) at out) ∙ ap (λ u. take at out ++ (u ++ drop (at + length piece) out)) e
 
@@ -63,13 +66,27 @@ placed-ok None piece at n out h =
     (q.1, omega (arith, q.1, leb-true (at + length piece) (length out) q.0))
 placed-ok (Some e) piece at n out h = absurd (let z : ◌≡◌ {A = ℕ} 0 1 = cc in omega arith)
 
-wrote-ok : (r : Rec) (at n : ℕ) (out : List ℕ) → Ok n ≡ wrote r at out → (n ≡ at + length (encode r)) × (n ≤ length out)
-wrote-ok r at n out h = placed-ok (flaw_of r) (encode r) at n out h
-
-pub grows : (r : Rec) (at n : ℕ) (out new : List ℕ) → Ok n ≡ wrote r at out → new ≡ laid out at (encode r) → take n new ≡ take at out ++ encode r
-grows r at n out new h e =
-    let w = wrote-ok r at n out h in
+grows : (o : Option ℕ) (piece : List ℕ) (at n : ℕ) (out new : List ℕ) → Ok n ≡ ruled o (placed piece at out) → new ≡ laid out at piece → take n new ≡ take at out ++ piece
+grows o piece at n out new h e =
+    let w = placed-ok o piece at n out h in
     let a : List ℕ = take at out in
     let l : length a ≡ at = simp length-take (omega (arith, w.0, w.1)) in
-    let m : length (a ++ encode r) ≡ n = simp length-append (omega (arith, l, w.0)) in
-    ap (take n) (e ∙ sym (append_assoc a (encode r) (drop (at + length (encode r)) out))) ∙ take_at (a ++ encode r) (drop (at + length (encode r)) out) n m
+    let m : length (a ++ piece) ≡ n = simp length-append (omega (arith, l, w.0)) in
+    ap (take n) (e ∙ sym (append_assoc a piece (drop (at + length piece) out))) ∙ take_at (a ++ piece) (drop (at + length piece) out) n m
+
+-- Writing, from what was laid and answered.
+pub puts : (ys text : List ℕ) (x y : Writer) (o : Result (Unit {0}) Cause) (r : Result ℕ ℕ) → r ≡ putting ys text x.place x.out.now → refused o ≡ refusal r → y.place ≡ place_now r x.place → y.out.now ≡ laid_over r x.out.now x.place (framed ys) → Puts ys text x y o
+puts ys text x y o (Ok n) e a p q =
+    record {
+      value = a ∙ ap refusal e;
+      place = p ∙ ap (λ r. place_now r x.place) e;
+      out = q ∙ ap (λ r. laid_over r x.out.now x.place (framed ys)) e;
+      whole = ap (λ i. take i y.out.now) p ∙ grows (flaw (get_or ys 0 0) (length ys) text) (framed ys) x.place n x.out.now y.out.now e q ∙ ap (λ u. grown u (bytes_of x) (framed ys)) (sym a);
+    }
+puts ys text x y o (Err n) e a p q =
+    record {
+      value = a ∙ ap refusal e;
+      place = p ∙ ap (λ r. place_now r x.place) e;
+      out = q ∙ ap (λ r. laid_over r x.out.now x.place (framed ys)) e;
+      whole = ap (λ i. take i y.out.now) p ∙ ap (take x.place) q ∙ ap (λ u. grown u (bytes_of x) (framed ys)) (sym a);
+    }

@@ -25,12 +25,6 @@ known-bounds k h = (grind (arith, nat_tests), grind (arith, nat_tests))
 pub sized-bounds : (k n : ℕ) → sized k n ≡ true → (least k ≤ n) × (n ≤ greatest k)
 sized-bounds k n h = (grind (arith, nat_tests), grind (arith, nat_tests))
 
--- a record of kind j has a length of kind j
-pub length-is : (k j n : ℕ) (text : List ℕ) → k ≡ j → flaw k n text ≡ None → (least j ≤ n) × (n ≤ greatest j)
-length-is k j n text e h =
-    let s : sized j n ≡ true = ap (λ i. sized i n) (sym e) ∙ (flawless k n text h).1 in
-    sized-bounds j n s
-
 -- every length fits one byte, so its two bytes are exact
 pub greatest-small : (k : ℕ) → known k ≡ true → greatest k < 256
 unfolding word_width mask_width
@@ -50,8 +44,8 @@ size_small k n text h =
 pub second : (xs t : List ℕ) → t ≡ drop 1 (take (length xs - 1) (drop 1 xs)) → t ≡ drop 2 xs
 second xs t e = e ∙ ap (drop 1) (between_to_end xs 1 (length xs) (omega arith)) ∙ drop-drop 1 1 xs
 
-pub inside-by : (xs t : List ℕ) (o : Option ℕ) → t ≡ drop 2 xs → o ≡ flaw (get_or xs 0 0) (length xs) t → ruled o (Ok (parsed (get_or xs 0 0) (drop 1 xs))) ≡ inside xs
-inside-by xs t o e h = ap (λ u. ruled u (Ok (parsed (get_or xs 0 0) (drop 1 xs)))) (h ∙ ap (flaw (get_or xs 0 0) (length xs)) e)
+pub inside_by : (xs text : List ℕ) (k : ℕ) (o : Option ℕ) → k ≡ get_or xs 0 0 → text ≡ drop 2 xs → o ≡ flaw k (length xs) text → ruled o (Ok (parsed k (drop 1 xs))) ≡ inside xs
+inside_by xs text k o e t h = ap (λ u. ruled u (Ok (parsed k (drop 1 xs)))) (h ∙ ap (flaw k (length xs)) t) ∙ ap (λ i. ruled (flaw i (length xs) (drop 2 xs)) (Ok (parsed i (drop 1 xs)))) e
 
 pub decode-by : (xs front : List ℕ) (n : ℕ) (o : Result Rec ℕ) → 2 ≤ length xs → n ≡ counted xs → (n ≡ 0 → ⊥) → n ≤ length (drop 2 xs) → front ≡ take n (drop 2 xs) → o ≡ inside front → taking (2 + n) o ≡ decode xs
 decode-by xs front n o l e p q f h =

@@ -1,13 +1,13 @@
 -- Whole files: reading and writing undo each other.
-use Rattle.std.proofs.Common.{◌≡◌, ℕ, zero, suc, ◌+◌, ◌<◌, ◌≤◌, Bool, true, false, cond, not, eqb, leb, List, [], ◌∷◌, ◌++◌, length, get_or, drop, Some, None, Ok, Err, Option, Result, sym, refl, ap, ◌∙◌, subst, inl, inr, arith, length-append, length-drop}
+use Rattle.std.proofs.Common.{◌≡◌, ℕ, zero, suc, ◌+◌, ◌-◌, ◌<◌, ◌≤◌, Bool, true, false, cond, not, eqb, leb, List, [], ◌∷◌, ◌++◌, length, get_or, drop, Some, None, Ok, Err, Option, Result, sym, refl, ap, ◌∙◌, subst, inl, inr, arith, length-append, length-drop}
 use Rattle.std.specs.List.{flat_map, AllByRecursion}
 use Rattle.std.proofs.lemmas.List.{flat_map_more, drop_more, drop-drop, drop_at, nil_from_length}
 use Rattle.std.proofs.ByRecursion.{All-drop}
-use Rattle.std.proofs.lemmas.Bool.{cases_eq, eq-eqb, ne_eqb, le-leb, lt-leb, cond-true, cond-false}
+use Rattle.std.proofs.lemmas.Bool.{cases_eq, eq-eqb, ne_eqb, le-leb, lt-leb, lt-ltb, cond-true, cond-false}
 use Rattle.std.proofs.lemmas.Bool.Decides.{nat_tests}
 use Rattle.sheet.specs.Layout.{Rec, version, longest, Bytes, headed, encode, decode}
 use Rattle.sheet.specs.declared.reader.Reader.{Reader}
-use Rattle.sheet.specs.Steps.{opens, ordered, turn, bare, told, onward, started, turned, Moved}
+use Rattle.sheet.specs.Steps.{opens, ordered, turn, bare, told, onward, started, begun_at, turned, Moved}
 use Rattle.sheet.specs.Files.{before, follow, read_from, read_on, read_all, reads_on, then, unread, Lessens, write_all, Fair, Sheet, Undone}
 use Rattle.sheet.proofs.Records.{found, decode-encode, encode-decode, decode-fair}
 
@@ -94,16 +94,34 @@ steps file at begun =
     follow-same (turn begun (drop at file)) at (λ next. read_from (length (drop at file)) file next true) (λ next. read_on file next true)
     (λ r h. let s = shorter file at begun r h in enough (length (drop at file)) (suc (length (drop (at + r.1) file))) file (at + r.1) true s (omega arith))
 
+-- a step from behind the version byte shows by its place
+begun-goes : (file : List ℕ) (at : ℕ) (t : Result (Option (Rec × ℕ)) ℕ) → 0 < at → turn (begun_at at) (drop at file) ≡ t → begun_at (onward at t) ≡ started (begun_at at) t
+begun-goes file at (Ok None) l h = refl
+begun-goes file at (Ok (Some p)) l h =
+    let f = found (drop at file) p.0 p.1 (turn-some (begun_at at) (drop at file) p h).0 in
+    lt-ltb 1 (at + p.1) (omega (arith, f.size))
+begun-goes file at (Err e) l h = refl
+
+-- a step stays in the file
+pub goes-in : (x : Reader) (rest : List ℕ) (r : Rec) (n : ℕ) → rest ≡ drop x.at x.file.now → decode rest ≡ Ok (r, n) → x.at + n ≤ length x.file.now
+goes-in x rest r n e h =
+    let f = found rest r n h in
+    let l : length rest ≡ length x.file.now - x.at = ap length e ∙ length-drop x.at x.file.now in
+    omega (arith, f.room, f.size, l, x.within)
+
+pub moves : (x y : Reader) → y.file.now ≡ x.file.now → y.at ≡ onward x.at (turned x) → Moved x y
+moves x y f a = record { file = f; at = a; begun = ap begun_at a ∙ begun-goes x.file.now x.at (turned x) x.begins refl }
+
 -- the same as a reader's answer and the rest
 pub told-by : (at : ℕ) (t : Result (Option (Rec × ℕ)) ℕ) (o : Option Rec) → Ok o ≡ bare t → Ok o ≡ told at t
 told-by at (Ok None) o h = cc
 told-by at (Ok (Some p)) o h = cc
-told-by at (Err e) o h = absurd (let z : ◌≡◌ {A = ℕ} 0 1 = cc in omega arith)
+told-by at (Err e) o h = cc
 
 pub told-fault : (at : ℕ) (t : Result (Option (Rec × ℕ)) ℕ) (e : ℕ) → Err e ≡ bare t → Err (e, at) ≡ told at t
-told-fault at (Ok None) e h = absurd (let z : ◌≡◌ {A = ℕ} 0 1 = cc in omega arith)
-told-fault at (Ok (Some p)) e h = absurd (let z : ◌≡◌ {A = ℕ} 0 1 = cc in omega arith)
-told-fault at (Err d) e h = let q : e ≡ d = cc in ap (λ x. Err (x, at)) q
+told-fault at (Ok None) e h = cc
+told-fault at (Ok (Some p)) e h = cc
+told-fault at (Err d) e h = cc
 
 follow-told : (file : List ℕ) (at next : ℕ) (begun : Bool) (t : Result (Option (Rec × ℕ)) ℕ) → next ≡ onward at t → follow t at (λ i. read_on file i true) ≡ then (told at t) (read_on file next (started begun t))
 follow-told file at next begun (Ok None) e = refl
@@ -112,8 +130,8 @@ follow-told file at next begun (Err x) e = refl
 
 pub walked : (x y : Reader) (a : Result (Option Rec) (ℕ × ℕ)) → a ≡ told x.at (turned x) → Moved x y → reads_on x ≡ then a (reads_on y)
 walked x y a e m =
-    steps x.file.now x.at x.begun ∙ follow-told x.file.now x.at y.at x.begun (turned x) m.at
-    ∙ ap (λ b. then (told x.at (turned x)) (read_on x.file.now y.at b)) (sym m.begun) ∙ ap (λ f. then (told x.at (turned x)) (read_on f y.at y.begun)) (sym m.file) ∙ ap (λ u. then u (reads_on y)) (sym e)
+    steps x.file.now x.at (begun_at x.at) ∙ follow-told x.file.now x.at y.at (begun_at x.at) (turned x) m.at
+    ∙ ap (λ b. then (told x.at (turned x)) (read_on x.file.now y.at b)) (sym m.begun) ∙ ap (λ f. then (told x.at (turned x)) (read_on f y.at (begun_at y.at))) (sym m.file) ∙ ap (λ u. then u (reads_on y)) (sym e)
 
 lessens : (file : List ℕ) (at : ℕ) (begun : Bool) (t : Result (Option (Rec × ℕ)) ℕ) → turn begun (drop at file) ≡ t → Lessens (told at t) (drop at file) (drop (onward at t) file)
 lessens file at begun (Ok None) h = refl
@@ -124,7 +142,7 @@ pub lessened : (x y : Reader) (a : Result (Option Rec) (ℕ × ℕ)) → a ≡ t
 lessened x y a e m =
     let d : drop (onward x.at (turned x)) x.file.now ≡ unread y = ap (λ i. drop i x.file.now) (sym m.at) ∙ ap (drop y.at) (sym m.file) in
     subst (λ (b : Result (Option Rec) (ℕ × ℕ)). Lessens b (unread x) (unread y)) (sym e)
-    (subst (λ (ys : List ℕ). Lessens (told x.at (turned x)) (unread x) ys) d (lessens x.file.now x.at x.begun (turned x) refl))
+    (subst (λ (ys : List ℕ). Lessens (told x.at (turned x)) (unread x) ys) d (lessens x.file.now x.at (begun_at x.at) (turned x) refl))
 
 -- An accepted file.
 

@@ -1,10 +1,11 @@
 -- Whole files: what a file reads as, what a list of records is written as, and that the two undo each other.
 use Rattle.std.specs.Prelude.{◌≡◌, ℕ, zero, suc, ◌+◌, ◌<◌, ◌≤◌, Bool, true, false, cond, List, [], ◌∷◌, ◌++◌, length, take, drop, Some, None, Ok, Err, Option, Result}
 use Rattle.std.specs.List.{flat_map, AllByRecursion}
+use Rattle.sheet.specs.declared.format.Cause.{Cause}
 use Rattle.sheet.specs.declared.reader.Reader.{Reader}
 use Rattle.sheet.specs.declared.writer.Writer.{Writer}
-use Rattle.sheet.specs.Layout.{Rec, version, longest, Bytes, Held, flaw_of, headed, encode, decode}
-use Rattle.sheet.specs.Steps.{opens, turn}
+use Rattle.sheet.specs.Layout.{Rec, version, longest, Bytes, Held, flaw_of, headed, framed, encode, decode}
+use Rattle.sheet.specs.Steps.{opens, turn, begun_at, refused, refusal, putting, place_now, laid_over}
 
 abbrev pub before : Rec → Result (List Rec) (ℕ × ℕ) → Result (List Rec) (ℕ × ℕ)
 before r (Ok rs) = Ok (r ∷ rs)
@@ -34,7 +35,7 @@ abbrev pub unread : Reader → List ℕ
 unread x = drop x.at x.file.now
 
 abbrev pub reads_on : Reader → Result (List Rec) (ℕ × ℕ)
-reads_on x = read_on x.file.now x.at x.begun
+reads_on x = read_on x.file.now x.at (begun_at x.at)
 
 -- an answer of the reader, and then the rest
 abbrev pub then : Result (Option Rec) (ℕ × ℕ) → Result (List Rec) (ℕ × ℕ) → Result (List Rec) (ℕ × ℕ)
@@ -59,6 +60,13 @@ bytes_of w = take w.place w.out.now
 abbrev pub grown : Option ℕ → List ℕ → List ℕ → List ℕ
 grown None bs piece = bs ++ piece
 grown (Some e) bs piece = bs
+
+-- a writer before and after it was to write kind and fields, and its answer
+pub record Puts (ys text : List ℕ) (x y : Writer) (o : Result (Unit {0}) Cause) : Type 0 where
+  pub value : refused o ≡ refusal (putting ys text x.place x.out.now)
+  pub place : y.place ≡ place_now (putting ys text x.place x.out.now) x.place
+  pub out : y.out.now ≡ laid_over (putting ys text x.place x.out.now) x.out.now x.place (framed ys)
+  pub whole : bytes_of y ≡ grown (refused o) (bytes_of x) (framed ys)
 
 -- the writer takes the record
 abbrev pub Fair : Rec → Type 0

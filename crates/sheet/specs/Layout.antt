@@ -1,6 +1,6 @@
 -- How a sheet file is laid out: numbers, records, and the bytes of a record. Assumes nothing.
 use Rattle.std.specs.Prelude.{ℕ, zero, suc, ◌+◌, ◌*◌, ◌/◌, ◌%◌, ◌^◌, ◌<◌, Bool, true, false, cond, List, [], ◌∷◌, ◌++◌, length, get_or, take, drop, Some, None, Ok, Err, Option, Result, ◌==◌, nat_le, nat_lt, slice_index, slice_index_or}
-use Rattle.std.specs.List.{AllByRecursion}
+use Rattle.std.specs.List.{AllByRecursion, list_all}
 
 -- the version byte
 unfoldable pub version : ℕ
@@ -70,8 +70,7 @@ plain_byte b = cond (nat_le 0x20 b) (nat_le b 0x7E) false
 
 -- every byte of a name's text can be printed
 abbrev pub plain : List ℕ → Bool
-plain [] = true
-plain (b ∷ bs) = cond (plain_byte b) (plain bs) false
+plain bs = list_all plain_byte bs
 
 -- what is wrong with a record of kind k and length n; the text matters for a name only
 abbrev pub flaw : ℕ → ℕ → List ℕ → Option ℕ

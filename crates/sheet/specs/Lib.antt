@@ -1,4 +1,5 @@
 pub mod Layout
 pub mod Steps
+pub mod Kinds
 pub mod Files
 pub mod Refusals

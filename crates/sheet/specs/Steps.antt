@@ -1,8 +1,8 @@
 -- The steps of the reader and the writer, and what a whole file reads as.
-use Rattle.std.specs.Prelude.{◌≡◌, ℕ, ◌+◌, Bool, true, false, cond, List, ◌++◌, length, take, drop, Some, None, Ok, Err, Option, Result, ◌==◌, nat_le, slice_index}
+use Rattle.std.specs.Prelude.{◌≡◌, ℕ, ◌+◌, Bool, true, false, cond, List, ◌++◌, length, take, drop, Some, None, Ok, Err, Option, Result, ◌==◌, nat_le, nat_lt, slice_index}
 use Rattle.sheet.specs.declared.format.Cause.{Cause}
 use Rattle.sheet.specs.declared.format.Cause.TheVariants.{Room, File, Length, Kind, Size, Text, Order}
-use Rattle.sheet.specs.declared.format.Fault.{Fault}
+use Rattle.sheet.specs.declared.fault.Fault.{Fault}
 use Rattle.sheet.specs.declared.format.Record.{Record}
 use Rattle.sheet.specs.declared.format.Record.TheVariants.{Head, Name, Limit, Claim, Bar, Range, Roots, Within, Apart, Count, Row}
 use Rattle.sheet.specs.declared.reader.Reader.{Reader}
@@ -57,10 +57,6 @@ abbrev pub answer : Result (Option Record) Fault → Result (Option Rec) (ℕ ×
 answer (Ok o) = Ok (meant_if o)
 answer (Err f) = Err (number f.cause, f.position)
 
-abbrev pub place_of : Result ℕ Cause → Result ℕ ℕ
-place_of (Ok n) = Ok n
-place_of (Err e) = Err (number e)
-
 -- the file may be read: it is not empty, not too long, and of the right version
 abbrev pub opens : List ℕ → Bool
 opens file = cond (length file == 0) false (cond (slice_index file 0 == version) (nat_le (length file) longest) false)
@@ -98,14 +94,18 @@ started begun (Ok None) = begun
 started begun (Ok (Some p)) = true
 started begun (Err e) = begun
 
+-- whether a reader has seen the head: before it there is only the version byte
+abbrev pub begun_at : ℕ → Bool
+begun_at at = nat_lt 1 at
+
 -- the step that a reader takes next
 abbrev pub turned : Reader → Result (Option (Rec × ℕ)) ℕ
-turned x = turn x.begun (drop x.at x.file.now)
+turned x = turn (begun_at x.at) (drop x.at x.file.now)
 
 pub record Moved (x y : Reader) : Type 0 where
   pub file : y.file.now ≡ x.file.now
   pub at : y.at ≡ onward x.at (turned x)
-  pub begun : y.begun ≡ started x.begun (turned x)
+  pub begun : begun_at y.at ≡ started (begun_at x.at) (turned x)
 
 -- a piece laid over what an output holds, from a place on
 abbrev pub laid : List ℕ → ℕ → List ℕ → List ℕ

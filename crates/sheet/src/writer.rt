@@ -1,68 +1,25 @@
-//! Writes records into a lent output.
-ghost use Rattle.std.specs.Prelude.{◌≡◌, ◌+◌, ◌<◌, ◌≤◌, [], ◌∷◌, ◌++◌, length, drop, Ok, Err, MatchResult};
-ghost use Rattle.sheet.specs.Layout.{version, framed, encode, Held};
-ghost use Rattle.sheet.specs.Files.{bytes_of, grown, write_all};
-ghost use Rattle.sheet.specs.Steps.{number, meant, place_of, laid, laid_over, putting, wrote, place_now, refused, refusal};
+//! Writes the records of a file into a lent output.
+ghost use Rattle.std.specs.Prelude.{◌≡◌, ◌+◌, ◌^◌, ◌<◌, ◌≤◌, [], ◌∷◌, ◌++◌, length, drop, MatchResult};
 
-use crate::format::{Cause, Record, VERSION, check};
-
-// Lays a piece over the output.
-fn lay(out: &mut [u8], at: usize, piece: &[u8])
-    requires { at + length piece.now ≤ length out.old }
-    ensures { out.new ≡ laid out.old at piece.now }
-{
-    out[at..at + piece.len()].copy_from_slice(piece);
-}
-
-// Writes kind and fields, the fields in two parts, with their length in front.
-fn put(out: &mut [u8], at: usize, kind: u8, front: &[u8], back: &[u8]) -> Result<usize, Cause>
-    requires { length front.now < 256 }
-    ensures value { place_of result ≡ putting (kind ∷ (front.now ++ back.now)) back.now at out.old }
-    ensures after { out.new ≡ laid_over (place_of result) out.old at (framed (kind ∷ (front.now ++ back.now))) }
-{
-    let len = 1 + front.len() + back.len();
-    check(kind, len, back)?;
-    if out.len().saturating_sub(at) < 2 + len {
-        return Err(Cause::Room);
-    }
-    let [high, low] = (len as u16).to_be_bytes();
-    let mid = at + 3 + front.len();
-    lay(out, at, &[high, low, kind]);
-    lay(out, at + 3, front);
-    lay(out, mid, back);
-    Ok(at + 2 + len)
-}
-
-// Writes a record at a place, and returns the place after it.
-fn write_at(out: &mut [u8], at: usize, one: &Record<'_>) -> Result<usize, Cause>
-    ensures value { place_of result ≡ wrote (meant one.now) at out.old }
-    ensures after { out.new ≡ laid_over (place_of result) out.old at (encode (meant one.now)) }
-    ensures held { Held (meant one.now) }
-{
-    match *one {
-        Record::Head { n, m, k, kinds } => put(out, at, 1, &[n, m, k], &kinds.to_be_bytes()),
-        Record::Name { sensor, text } => put(out, at, 2, &[sensor], text),
-        Record::Limit { sensor, mask } => put(out, at, 3, &[sensor], &mask.to_be_bytes()),
-        Record::Claim { set, mask } => put(out, at, 4, &[set], &mask.to_be_bytes()),
-        Record::Bar { set, mask } => put(out, at, 5, &[set], &mask.to_be_bytes()),
-        Record::Range { g, s, t } => put(out, at, 6, &g.to_be_bytes(), &[s, t]),
-        Record::Roots { g, s, t } => put(out, at, 7, &g.to_be_bytes(), &[s, t]),
-        Record::Within { a, b } => put(out, at, 8, &[a], &[b]),
-        Record::Apart { a, b } => put(out, at, 9, &[a], &[b]),
-        Record::Count { a, p, q } => put(out, at, 10, &[a], &[p, q]),
-        Record::Row { a } => put(out, at, 11, &[a], &[]),
-    }
-}
+use crate::format::{Cause, Record, VERSION};
+use crate::kind::Kind;
 
 /// Writes a file into an output that was lent.
 #[derive(Drop)]
 pub struct Writer<'a> {
-    out: &'a mut [u8],
-    place: usize,
+    pub(crate) out: &'a mut [u8],
+    pub(crate) place: usize,
+    ghost within: { place ≤ length out.now },
 }
 
 impl<'a> Writer<'a> {
+    ghost use Rattle.sheet.specs.Layout.{version, mask_width, digits, encode, Held};
+    ghost use Rattle.sheet.specs.Kinds.{code_of};
+    ghost use Rattle.sheet.specs.Files.{bytes_of, grown, write_all, Puts};
+    ghost use Rattle.sheet.specs.Steps.{number, meant, laid, laid_over, wrote, place_now, refused, refusal};
+
     /// Begins a file with the version byte.
+    #[tactic(auto, using(std::proofs::lemmas::List::set_split), unfolding(crate::specs::Layout::version))]
     pub fn begin(out: &'a mut [u8]) -> Result<Writer<'a>, Cause>
         ensures whole { MatchResult result (λ w. bytes_of w ≡ write_all []) (λ _. length out.old ≡ 0) }
         ensures value { MatchResult result (λ w. (0 < length out.old) × (w.out.now ≡ version ∷ drop 1 out.old) × (w.place ≡ 1)) (λ e. (length out.old ≡ 0) × (number e ≡ 9)) }
@@ -74,6 +31,51 @@ impl<'a> Writer<'a> {
         Ok(Writer { out, place: 1 })
     }
 
+    // Lays a piece after what was written.
+    #[tactic(auto, using(crate::proofs::Outputs::laid_part))]
+    fn lay(&mut self, piece: &[u8])
+        requires { self.old.place + length piece.now ≤ length self.old.out.now }
+        ensures out { self.new.out.now ≡ laid self.old.out.now self.old.place piece.now }
+        ensures place { self.new.place ≡ self.old.place + length piece.now }
+    {
+        let end = self.place + piece.len();
+        self.out[self.place..end].copy_from_slice(piece);
+        self.place = end;
+    }
+
+    // Writes kind and fields, the fields in two parts, with their length in front.
+    fn put(&mut self, kind: Kind, front: &[u8], back: &[u8]) -> Result<(), Cause>
+        requires { length front.now < 256 }
+        ensures { Puts (code_of kind ∷ (front.now ++ back.now)) back.now self.old self.new result }
+    {
+        let len = 1 + front.len() + back.len();
+        kind.check(len, back)?;
+        if self.out.len() - self.place < 2 + len {
+            return Err(Cause::Room);
+        }
+        let [high, low] = (len as u16).to_be_bytes();
+        self.lay(&[high, low, u8::from(kind)]);
+        self.lay(front);
+        self.lay(back);
+        Ok(())
+    }
+
+    // Writes a sensor or a set, and its mask.
+    fn put_entry(&mut self, kind: Kind, number: u8, mask: u64) -> Result<(), Cause>
+        ensures put { Puts (code_of kind ∷ number ∷ digits mask_width mask) (digits mask_width mask) self.old self.new result }
+        ensures held { mask < 256 ^ mask_width }
+    {
+        self.put(kind, &[number], &mask.to_be_bytes())
+    }
+
+    // Writes G, S and T.
+    fn put_triple(&mut self, kind: Kind, g: u64, s: u8, t: u8) -> Result<(), Cause>
+        ensures put { Puts (code_of kind ∷ (digits mask_width g ++ (s ∷ t ∷ []))) (s ∷ t ∷ []) self.old self.new result }
+        ensures held { g < 256 ^ mask_width }
+    {
+        self.put(kind, &g.to_be_bytes(), &[s, t])
+    }
+
     /// Writes a record after what was written. A refusal leaves output and place as they were.
     pub fn write(&mut self, one: &Record<'_>) -> Result<(), Cause>
         ensures value { refused result ≡ refusal (wrote (meant one.now) self.old.place self.old.out.now) }
@@ -82,15 +84,29 @@ impl<'a> Writer<'a> {
         ensures whole { bytes_of self.new ≡ grown (refused result) (bytes_of self.old) (encode (meant one.now)) }
         ensures held { Held (meant one.now) }
     {
-        let place = self.place;
-        self.place = write_at(self.out, place, one)?;
-        Ok(())
+        match *one {
+            Record::Head { n, m, k, kinds } => self.put(
+                Kind::Head,
+                &[n, m, k],
+                &kinds.to_be_bytes(),
+            ),
+            Record::Name { sensor, text } => self.put(Kind::Name, &[sensor], text),
+            Record::Limit { sensor, mask } => self.put_entry(Kind::Limit, sensor, mask),
+            Record::Claim { set, mask } => self.put_entry(Kind::Claim, set, mask),
+            Record::Bar { set, mask } => self.put_entry(Kind::Bar, set, mask),
+            Record::Range { g, s, t } => self.put_triple(Kind::Range, g, s, t),
+            Record::Roots { g, s, t } => self.put_triple(Kind::Roots, g, s, t),
+            Record::Within { a, b } => self.put(Kind::Within, &[a], &[b]),
+            Record::Apart { a, b } => self.put(Kind::Apart, &[a], &[b]),
+            Record::Count { a, p, q } => self.put(Kind::Count, &[a], &[p, q]),
+            Record::Row { a } => self.put(Kind::Row, &[a], &[]),
+        }
     }
 
     /// What was written so far.
     pub fn written(&self) -> &[u8]
         ensures { result.now ≡ bytes_of self.now }
     {
-        &self.out[..self.place.min(self.out.len())]
+        &self.out[..self.place]
     }
 }

@@ -3,11 +3,10 @@
 
 ghost use Rattle.std.specs.Prelude.{◌≤◌, length, IfOk};
 
-use anyhow::anyhow;
+use anyhow::Context;
 use kinds::SheetRule;
 use plan::draft::MOST_PLACES;
 use planner::printing::print_sheet;
-use sets::row::Row;
 use sheet::LONGEST;
 use std::io::{Read, Write};
 use std::{env, io};
@@ -28,16 +27,15 @@ fn main(rt: HostRuntime) -> anyhow::Result<()> {
     // One byte more than a sheet may have shows that it is too long.
     let mut file = [0u8; LONGEST + 1];
     let len = read_up_to(&mut rt.stdin(), &mut file)?;
-    let mut places = [SheetRule::Row(Row { a: 0 }); MOST_PLACES];
+    let mut places = [SheetRule::default(); MOST_PLACES];
     let mut out = [0u8; LONGEST_LISTING];
-    let Ok(end) = print_sheet(&file[..len], &mut places, &mut out) else {
-        return Err(anyhow!("the output is too short"));
-    };
+    let end = print_sheet(&file[..len], &mut places, &mut out).context("the output is too short")?;
     rt.stdout().write_all(&out[..end])?;
     Ok(())
 }
 
 // Reads to the end of the input, or until the bytes are full; tells how many were read.
+// No method reads to the end into fixed memory: read_to_end wants a Vec, and read_exact an input that is long enough.
 fn read_up_to(input: &mut impl Read, bytes: &mut [u8]) -> io::Result<usize>
     ensures { IfOk result (λ n. n ≤ length bytes.new) }
 {

@@ -1,10 +1,10 @@
 -- What numbers lead to, gathered number by number. Assumes nothing.
-use Rattle.std.proofs.Common.{◌≡◌, ℕ, ◌+◌, ◌^◌, ◌<◌, ◌≤◌, true, false, ◌⊎◌, List, length, get_or, set, sym, ap, ◌∙◌, subst, inl, inr, arith, get_or-set_other, get_or-set_same}
+use Rattle.std.proofs.Common.{◌≡◌, ℕ, ◌<◌, ◌≤◌, true, false, ◌⊎◌, List, length, get_or, sym, ap, ◌∙◌, subst, inl, inr}
 use lib.Bits.{bit_or}
 use Rattle.std.proofs.lemmas.Bool.{cases_eq, cases_Bool, both_ways, or_cases, or_left, or_right, cond-true, cond-false, cond_both}
-use Rattle.masks.specs.Masks.{has, without}
+use Rattle.masks.specs.Masks.{has, Parted}
 use Rattle.masks.proofs.Masks.{has-or}
-use Rattle.covering.proofs.Singles.{drop-only, left_out}
+use Rattle.covering.proofs.Singles.{part-only, part-out}
 use Rattle.spares.specs.Closure.{joined, Leads, stay, step, Closing}
 
 pub leads-on : {edges : List ℕ} {u k v : ℕ} → Leads edges u k → Leads edges k v → Leads edges u v
@@ -31,21 +31,10 @@ joined-only own k row x e = elim (cases_Bool (has own k)) [
 
 -- ---- one number
 
--- the masks before index u are joined, the others are as they were
-pub record Passed (old : List ℕ) (k u : ℕ) (next : List ℕ) : Type 0 where
-  pub done : (x : ℕ) → x < u → get_or next x 0 ≡ joined (get_or old x 0) k (get_or old k 0)
+-- the masks before index u are joined with a row, the others are as they were
+pub record Passed (old : List ℕ) (k row u : ℕ) (next : List ℕ) : Type 0 where
+  pub done : (x : ℕ) → x < u → get_or next x 0 ≡ joined (get_or old x 0) k row
   pub rest : (x : ℕ) → u ≤ x → get_or next x 0 ≡ get_or old x 0
-
-pub passed-more : {old next : List ℕ} {k u new : ℕ} → u < length next → new ≡ joined (get_or next u 0) k (get_or old k 0) → Passed old k u next
-    → Passed old k (u + 1) (set next u new)
-passed-more {old} {next} {k} {u} {new} l e h = record {
-  done = λ x lx. elim (cases_eq x u) [
-    | inl z ↦ subst (λ (y : ℕ). get_or (set next u new) y 0 ≡ joined (get_or old y 0) k (get_or old k 0)) (sym z)
-        (get_or-set_same next u new 0 l ∙ e ∙ ap (λ (m : ℕ). joined m k (get_or old k 0)) (h.rest u (omega arith)))
-    | inr ne ↦ get_or-set_other next u x new 0 ne ∙ h.done x (omega (arith, ne))
-  ];
-  rest = λ x lx. get_or-set_other next u x new 0 (λ z. omega arith) ∙ h.rest x (omega arith);
-}
 
 -- ---- number by number
 
@@ -58,7 +47,7 @@ closing-start end next among l = record {
   from = λ u v lu e. step u v stay e;
 }
 
-module _ {end : ℕ} {edges next : List ℕ} (new : List ℕ) {among left : ℕ} (k : ℕ) (lk : k < end) (long : length new ≡ 64)
+module _ {end : ℕ} {edges next : List ℕ} (new : List ℕ) {among left k rest : ℕ} (p : Parted left k rest) (lk : k < end) (long : length new ≡ 64)
     (each : (u : ℕ) → u < end → get_or new u 0 ≡ joined (get_or next u 0) k (get_or next k 0)) (h : Closing end edges among left next) where
   keeps : (u x : ℕ) → u < end → has (get_or next u 0) x ≡ true → has (get_or new u 0) x ≡ true
   keeps u x l e = ap (λ (m : ℕ). has m x) (each u l) ∙ joined_keeps (get_or next u 0) k (get_or next k 0) x e
@@ -78,7 +67,7 @@ module _ {end : ℕ} {edges next : List ℕ} (new : List ℕ) {among left : ℕ}
 
   -- through j, gone through before
   through : (j u v : ℕ) → j < end → u < end → has among j ≡ true → has left j ≡ false → has (get_or new u 0) j ≡ true → has (get_or new j 0) v ≡ true → has (get_or new u 0) v ≡ true
-  through j u v lj lu a f p q = elim (only u j lu p) [
+  through j u v lj lu a f y q = elim (only u j lu y) [
     | inl p' ↦ elim (only j v lj q) [
       | inl q' ↦ keeps u v lu (h.via j u v a f lu p' q')
       | inr q' ↦ takes u v lu (h.via j u k a f lu p' q'.0) q'.1
@@ -89,14 +78,14 @@ module _ {end : ℕ} {edges next : List ℕ} (new : List ℕ) {among left : ℕ}
     ]
   ]
 
-  pub closing-more : ((j : ℕ) → has among j ≡ true → j < end) → Closing end edges among (without left (2 ^ k)) new
+  pub closing-more : ((j : ℕ) → has among j ≡ true → j < end) → Closing end edges among rest new
   closing-more low = record {
     long = long;
-    inside = λ j e. h.inside j (drop-only left k j e);
+    inside = λ j e. h.inside j (part-only p j e);
     edge = λ u v l e. keeps u v l (h.edge u v l e);
-    via = λ j u v a f lu p q. elim (cases_eq j k) [
-      | inl z ↦ takes u v lu (to-k u lu (subst (λ (x : ℕ). has (get_or new u 0) x ≡ true) z p)) (of-k v (subst (λ (x : ℕ). has (get_or new x 0) v ≡ true) z q))
-      | inr ne ↦ through j u v (low j a) lu a (left_out left k j ne f) p q
+    via = λ j u v a f lu y q. elim (cases_eq j k) [
+      | inl z ↦ takes u v lu (to-k u lu (subst (λ (x : ℕ). has (get_or new u 0) x ≡ true) z y)) (of-k v (subst (λ (x : ℕ). has (get_or new x 0) v ≡ true) z q))
+      | inr ne ↦ through j u v (low j a) lu a (part-out p j ne f) y q
     ];
     from = λ u v l e. elim (only u v l e) [
       | inl y ↦ h.from u v l y

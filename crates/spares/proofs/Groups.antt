@@ -3,14 +3,14 @@ use Rattle.std.proofs.Common.{◌≡◌, ℕ, zero, suc, ◌+◌, ◌^◌, ◌<�
 use lib.Bits.{bit_and, bit_or}
 use lib.Count.{ones, ones-ones}
 use Rattle.std.proofs.lemmas.Bool.{cases_eq, cases_Bool, both_ways, and_from, and_parts, lt-ltb, ltb-true}
-use Rattle.masks.specs.Masks.{has, without, tally}
+use Rattle.masks.specs.Masks.{has, without, tally, Parted}
 use Rattle.masks.proofs.Masks.{has-and, has-zero, has-below}
 use Rattle.masks.proofs.Subsets.{has-ext, small, single-has, single-other}
 use Rattle.masks.proofs.Counts.{ones-tally}
 use Rattle.covering.specs.Covering.{Covering, Short, Allowed, Needed, candidate}
 use Rattle.covering.proofs.Coverings.{widen}
 use Rattle.covering.proofs.Shorts.{short-needed}
-use Rattle.covering.proofs.Singles.{or-here, or-keeps, or-only, or-not, or-other, or-ones, drop_keeps, drop-only, drop-apart, drop-ones, left_out, less-has, less-only}
+use Rattle.covering.proofs.Singles.{or-here, or-keeps, or-only, or-not, or-other, or-ones, drop_keeps, drop-only, drop-apart, drop-ones, less-has, less-only, part-only, part-out}
 use Rattle.spares.specs.Closure.{Leads, stay, step, Closing}
 use Rattle.spares.specs.Free.{Idle, Freed}
 use Rattle.spares.specs.Rows.{Rowed}
@@ -61,17 +61,17 @@ pub rowed-start : (cands : List ℕ) (on : ℕ → ℕ) (slots : ℕ) (rows : Li
     → Rowed cands on slots slots rows
 rowed-start cands on slots rows l z = record { long = l; inside = λ v e. e; each = λ v e f. absurd (both_ways _ f e); none = λ v l f. z v l }
 
-pub rowed-more : {cands rows : List ℕ} {on : ℕ → ℕ} {slots left : ℕ} (v : ℕ) → v < 64 → has left v ≡ true → Rowed cands on slots left rows
-    → Rowed cands on slots (without left (2 ^ v)) (set rows v (bit_and (get_or cands (on v) 0) slots))
-rowed-more {cands} {rows} {on} {slots} {left} v l t h = record {
+pub rowed-more : {cands rows : List ℕ} {on : ℕ → ℕ} {slots left v rest : ℕ} → Parted left v rest → Rowed cands on slots left rows
+    → Rowed cands on slots rest (set rows v (bit_and (get_or cands (on v) 0) slots))
+rowed-more {cands} {rows} {on} {slots} {left} {v} p h = record {
   long = length-set rows v _ ∙ h.long;
-  inside = λ x e. h.inside x (drop-only left v x e);
+  inside = λ x e. h.inside x (part-only p x e);
   each = λ x e f. elim (cases_eq x v) [
     | inl z ↦ subst (λ (y : ℕ). get_or (set rows v (bit_and (get_or cands (on v) 0) slots)) y 0 ≡ bit_and (get_or cands (on y) 0) slots) (sym z)
-        (get_or-set_same rows v _ 0 (let a = h.long in omega arith))
-    | inr ne ↦ get_or-set_other rows v x _ 0 ne ∙ h.each x e (left_out left v x ne f)
+        (get_or-set_same rows v _ 0 (let a = h.long in let b = p.low in omega arith))
+    | inr ne ↦ get_or-set_other rows v x _ 0 ne ∙ h.each x e (part-out p x ne f)
   ];
-  none = λ x k f. get_or-set_other rows v x _ 0 (λ z. both_ways _ f (subst (λ (y : ℕ). has slots y ≡ true) (sym z) (h.inside v t))) ∙ h.none x k f;
+  none = λ x k f. get_or-set_other rows v x _ 0 (λ z. both_ways _ f (subst (λ (y : ℕ). has slots y ≡ true) (sym z) (h.inside v p.member))) ∙ h.none x k f;
 }
 
 pub rowed-all : {cands rows : List ℕ} {on : ℕ → ℕ} {slots left : ℕ} → left ≡ 0 → Rowed cands on slots left rows → Rowed cands on slots 0 rows

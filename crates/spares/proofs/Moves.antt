@@ -1,11 +1,11 @@
 -- A covering in which a slot is moved to another sensor, and the slots that are freed so. Assumes nothing.
-use Rattle.std.proofs.Common.{◌≡◌, ℕ, ◌^◌, Bool, true, false, cond, eqb, ◌⊎◌, List, get_or, sym, ◌∙◌, subst, inl, inr}
+use Rattle.std.proofs.Common.{◌≡◌, ℕ, Bool, true, false, cond, eqb, ◌⊎◌, List, get_or, sym, ◌∙◌, subst, inl, inr}
 use lib.Bits.{bit_and, bit_or}
 use Rattle.std.proofs.lemmas.Bool.{cases_eq, cases_Bool, both_ways, and_from, and_parts, or_cases, or_parts, or_left, or_right, cond-true, cond-false, eq-eqb, ne_eqb}
-use Rattle.masks.specs.Masks.{has, without}
+use Rattle.masks.specs.Masks.{has, Parted}
 use Rattle.masks.proofs.Masks.{has-and, has-or, has-zero}
 use Rattle.covering.specs.Covering.{Covering, candidate}
-use Rattle.covering.proofs.Singles.{drop-only, left_out}
+use Rattle.covering.proofs.Singles.{part-only, part-out}
 use Rattle.spares.specs.Free.{Offered, Idle, Without, Freed}
 
 -- slot x on sensor j, the others as before
@@ -52,27 +52,27 @@ offered-start cands owner sensors claimed = record {
   from = λ v e. absurd (both_ways _ (has-zero v) e);
 }
 
-module _ {cands owner : List ℕ} {sensors claimed left found : ℕ} (i : ℕ) (e : has left i ≡ true) (h : Offered cands owner sensors claimed left found) where
-  pub offered-less : (get_or owner i 0 ≡ 64 → ⊥) → Offered cands owner sensors claimed (without left (2 ^ i)) found
+module _ {cands owner : List ℕ} {sensors claimed left found i rest : ℕ} (p : Parted left i rest) (h : Offered cands owner sensors claimed left found) where
+  pub offered-less : (get_or owner i 0 ≡ 64 → ⊥) → Offered cands owner sensors claimed rest found
   offered-less ne = record {
-    inside = λ j t. h.inside j (drop-only left i j t);
+    inside = λ j t. h.inside j (part-only p j t);
     all = λ j v s f o k t. elim (cases_eq j i) [
       | inl z ↦ absurd (ne (subst (λ (x : ℕ). get_or owner x 0 ≡ 64) z o))
-      | inr nj ↦ h.all j v s (left_out left i j nj f) o k t
+      | inr nj ↦ h.all j v s (part-out p j nj f) o k t
     ];
     from = h.from;
   }
 
-  pub offered-more : get_or owner i 0 ≡ 64 → Offered cands owner sensors claimed (without left (2 ^ i)) (bit_or found (bit_and (get_or cands i 0) claimed))
+  pub offered-more : get_or owner i 0 ≡ 64 → Offered cands owner sensors claimed rest (bit_or found (bit_and (get_or cands i 0) claimed))
   offered-more o = record {
-    inside = λ j t. h.inside j (drop-only left i j t);
-    all = λ j v s f p k t. has-or found (bit_and (get_or cands i 0) claimed) v ∙ elim (cases_eq j i) [
-      | inl z ↦ or_right _ _ (has-and (get_or cands i 0) claimed v ∙ and_from _ _ (subst (λ (x : ℕ). candidate cands x v ≡ true) z t) k)
-      | inr nj ↦ or_left _ _ (h.all j v s (left_out left i j nj f) p k t)
+    inside = λ j t. h.inside j (part-only p j t);
+    all = λ j v s f z k t. has-or found (bit_and (get_or cands i 0) claimed) v ∙ elim (cases_eq j i) [
+      | inl y ↦ or_right _ _ (has-and (get_or cands i 0) claimed v ∙ and_from _ _ (subst (λ (x : ℕ). candidate cands x v ≡ true) y t) k)
+      | inr nj ↦ or_left _ _ (h.all j v s (part-out p j nj f) z k t)
     ];
     from = λ v t. elim (or_cases _ _ (sym (has-or found (bit_and (get_or cands i 0) claimed) v) ∙ t)) [
       | inl y ↦ h.from v y
-      | inr y ↦ (let q = and_parts _ _ (sym (has-and (get_or cands i 0) claimed v) ∙ y) in (i, h.inside i e, o, q.1, q.0))
+      | inr y ↦ (let q = and_parts _ _ (sym (has-and (get_or cands i 0) claimed v) ∙ y) in (i, h.inside i p.member, o, q.1, q.0))
     ];
   }
 

@@ -6,11 +6,11 @@ use Rattle.masks.specs.Masks.{has, without, past}
 use Rattle.masks.proofs.Masks.{has-and, has-zero}
 use Rattle.masks.proofs.Ends.{past_all}
 use Rattle.covering.specs.Covering.{Avoidable, Needed, candidate}
-use Rattle.covering.specs.Matching.{Busy}
+use Rattle.covering.specs.Paired.{AllBusy}
 use Rattle.covering.specs.Notes.{NotesOf, sensor_of}
 use Rattle.covering.specs.declared.notes.Notes.{Notes}
 use Rattle.covering.proofs.Coverings.{idle-avoidable, outside, unowned}
-use Rattle.covering.proofs.Held.{matching, owns, slot, sensors-low, claimed-low}
+use Rattle.covering.proofs.Held.{owns, slot, sensors-low, claimed-low}
 use Rattle.covering.proofs.Singles.{less-has, less-only, less-joined}
 use Rattle.spares.specs.Closure.{Closing}
 use Rattle.spares.specs.Free.{Offered, Idle, Freed}
@@ -21,9 +21,9 @@ use Rattle.spares.proofs.Moves.{freed-start, freed-more, freed-all}
 module _ (n : Notes) (small : n.pairs.claimed < 2 ^ 64) (cands : List ℕ)
     (o : NotesOf (candidate cands) n.pairs.sensors n.pairs.claimed n) where
   unslotted : (j : ℕ) → get_or n.pairs.owner j 0 ≡ 64 → Idle n.pairs.claimed (sensor_of n) j
-  unslotted j z = unowned j (matching n) small z
+  unslotted j z = unowned j n.matching small z
 
-  unused : Busy n.pairs.sensors n.pairs.idle n.pairs.owner → (j : ℕ) → has n.pairs.sensors j ≡ true → get_or n.pairs.owner j 0 ≡ 64 → has n.pairs.idle j ≡ true
+  unused : AllBusy n.pairs → (j : ℕ) → has n.pairs.sensors j ≡ true → get_or n.pairs.owner j 0 ≡ 64 → has n.pairs.idle j ≡ true
   unused b j s z = elim (cases_Bool (has n.pairs.idle j)) [ inl t ↦ t | inr f ↦ absurd (omega (arith, b j s f)) ]
 
   idle-or-on : (j : ℕ) → has n.pairs.sensors j ≡ true
@@ -32,7 +32,7 @@ module _ (n : Notes) (small : n.pairs.claimed < 2 ^ 64) (cands : List ℕ)
 
   -- ---- the free slots
 
-  pub freed-offered : {found : ℕ} → Busy n.pairs.sensors n.pairs.idle n.pairs.owner → Offered cands n.pairs.owner (bit_and n.pairs.sensors n.pairs.idle) n.pairs.claimed 0 found
+  pub freed-offered : {found : ℕ} → AllBusy n.pairs → Offered cands n.pairs.owner (bit_and n.pairs.sensors n.pairs.idle) n.pairs.claimed 0 found
       → Freed (candidate cands) n.pairs.sensors n.pairs.claimed (sensor_of n) (without n.pairs.claimed n.pairs.claimed) found
   freed-offered b h = freed-start o.covers
       (λ v e. let p = less-only n.pairs.claimed n.pairs.claimed v e in both_ways _ p.1 p.0)
@@ -68,18 +68,18 @@ module _ (n : Notes) (small : n.pairs.claimed < 2 ^ 64) (cands : List ℕ)
 
   module _ {free : ℕ} (h : Freed (candidate cands) n.pairs.sensors n.pairs.claimed (sensor_of n) free free) where
     beyond-free : (i : ℕ) → 64 ≤ i → Avoidable (candidate cands) n.pairs.sensors n.pairs.claimed i
-    beyond-free i l = idle-avoidable i (matching n) o.takers (outside i (matching n) n.sized l)
+    beyond-free i l = idle-avoidable i n.matching o.takers (outside i n.matching n.sized l)
 
     slot-free : (i : ℕ) → i < 64 → has (without n.pairs.claimed free) (get_or n.pairs.owner i 0) ≡ false
         → Avoidable (candidate cands) n.pairs.sensors n.pairs.claimed i
     slot-free i l f = elim (cases_eq (get_or n.pairs.owner i 0) 64) [
-      | inl z ↦ idle-avoidable i (matching n) o.takers (unslotted i z)
+      | inl z ↦ idle-avoidable i n.matching o.takers (unslotted i z)
       | inr ne ↦
           let u = get_or n.pairs.owner i 0 in
           let lu = slot n i l ne in
           elim (cases_Bool (has free u)) [
-            | inl t ↦ (let w = h.out u t in record { on = w.over; covers = w.covers; unused = λ v e z. w.unused v e (z ∙ sym (n.returned i l lu)) })
-            | inr k ↦ absurd (both_ways _ f (less-has n.pairs.claimed free u (n.owned i l lu) k))
+            | inl t ↦ (let w = h.out u t in record { on = w.over; covers = w.covers; unused = λ v e z. w.unused v e (z ∙ sym (n.matching.returned i l lu)) })
+            | inr k ↦ absurd (both_ways _ f (less-has n.pairs.claimed free u (n.matching.owned i l lu) k))
           ]
     ]
 
@@ -89,7 +89,7 @@ module _ (n : Notes) (small : n.pairs.claimed < 2 ^ 64) (cands : List ℕ)
     slot-tied {next = next} g k i l b =
         let u = get_or n.pairs.owner i 0 in
         let cu = (less-only n.pairs.claimed free u b).0 in
-        subst (λ (x : ℕ). Needed (candidate cands) n.pairs.sensors n.pairs.claimed x (get_or next u 0)) (n.returned i l (claimed-low n small u cu))
+        subst (λ (x : ℕ). Needed (candidate cands) n.pairs.sensors n.pairs.claimed x (get_or next u 0)) (n.matching.returned i l (claimed-low n small u cu))
         (group-needed o.covers h (claimed-low n small) idle-or-on g (λ v e. past_all _ v (omega arith) e) k u b)
 
     -- where no slot is bound there is no group

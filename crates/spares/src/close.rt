@@ -2,9 +2,8 @@ ghost use Rattle.std.specs.Prelude.{◌≡◌, ℕ, ◌<◌, ◌≤◌, slice_in
 ghost use Rattle.masks.specs.Masks.{past as past_of};
 ghost use Rattle.spares.specs.Closure.{joined, Closing};
 
-use covering::bits::split;
 use covering::notes::Note;
-use masks::{contains, past};
+use masks::{contains, members, past};
 
 /// The mask `own`, with the members of `row` if it has k.
 fn join(own: u64, k: Note, row: u64) -> u64
@@ -20,8 +19,8 @@ fn pass(next: &mut [u64; 64], k: Note, end: usize)
     ensures { (u : ℕ) → u < end → slice_index next.new u ≡ joined (slice_index next.old u) k (slice_index next.old k) }
 {
     let row = next[k as usize];
-    for u in 0..end {
-        next[u] = join(next[u], k, row);
+    for own in &mut next[..end] {
+        *own = join(*own, k, row);
     }
 }
 
@@ -30,9 +29,7 @@ pub fn close(next: &mut [u64; 64], among: u64)
     ensures { Closing (past_of among) next.old among 0 next.new }
 {
     let end = past(among) as usize;
-    let mut left = among;
-    while let Some((k, rest)) = split(left) {
-        left = rest;
+    for k in members(among) {
         pass(next, k, end);
     }
 }

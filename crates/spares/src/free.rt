@@ -1,11 +1,12 @@
 ghost use Rattle.std.specs.Prelude.{ℕ, bit_and};
 ghost use Rattle.covering.specs.Covering.{candidate};
-ghost use Rattle.covering.specs.Matching.{Busy};
+ghost use Rattle.covering.specs.Paired.{AllBusy};
 ghost use Rattle.covering.specs.Notes.{NotesOf, sensor_of};
 ghost use Rattle.spares.specs.Free.{Offered, Freed};
 
 use covering::bits::{drop_one, split};
 use covering::notes::{NONE, Notes};
+use masks::members;
 
 /// The claimed slots that a sensor without a slot has as a candidate. Done as soon as these are all.
 fn offered(notes: &Notes, cands: &[u64; 64]) -> u64
@@ -13,12 +14,10 @@ fn offered(notes: &Notes, cands: &[u64; 64]) -> u64
 {
     let claimed = notes.pairs.claimed;
     let mut found = 0;
-    let mut left = notes.pairs.sensors & notes.pairs.idle;
-    while let Some((i, rest)) = split(left) {
+    for i in members(notes.pairs.sensors & notes.pairs.idle) {
         if found == claimed {
             return found;
         }
-        left = rest;
         let own = cands[i as usize] & claimed;
         if notes.pairs.owner[i as usize] == NONE {
             found |= own;
@@ -31,11 +30,12 @@ fn offered(notes: &Notes, cands: &[u64; 64]) -> u64
 /// had it is then left out; or that one takes a slot over in turn. Done as soon as these are all.
 /// It looks at idle sensors alone, so it is exact where all others have a slot.
 pub fn spared(notes: &Notes, cands: &[u64; 64]) -> u64
-    ensures { (sensors claimed : ℕ) → NotesOf (candidate cands.now) sensors claimed notes.now → Busy notes.now.pairs.sensors notes.now.pairs.idle notes.now.pairs.owner → Freed (candidate cands.now) sensors claimed (sensor_of notes.now) result result }
+    ensures { (sensors claimed : ℕ) → NotesOf (candidate cands.now) sensors claimed notes.now → AllBusy notes.now.pairs → Freed (candidate cands.now) sensors claimed (sensor_of notes.now) result result }
 {
     let claimed = notes.pairs.claimed;
     let mut free = offered(notes, cands);
     let mut left = claimed;
+    // `free` grows as it is gone through: no walk over the members of a mask that stands still.
     while let Some((v, _)) = split(free & left) {
         if free == claimed {
             return free;

@@ -1,7 +1,7 @@
 ghost use Rattle.std.specs.Prelude.{◌≡◌, ℕ, Bool, true};
 ghost use Rattle.masks.specs.Masks.{has};
 ghost use Rattle.covering.specs.Covering.{candidate};
-ghost use Rattle.covering.specs.Matching.{Busy};
+ghost use Rattle.covering.specs.Paired.{AllBusy};
 ghost use Rattle.covering.specs.Notes.{NotesOf, sensor_of};
 ghost use Rattle.covering.specs.Roles.{Plays};
 ghost use Rattle.spares.specs.Rows.{Rowed};
@@ -10,11 +10,10 @@ ghost use Rattle.spares.specs.Spares.{SparesOf};
 use crate::close::close;
 use crate::free::spared;
 use crate::turn::turn;
-use covering::bits::split;
-use covering::notes::{NONE, Note, Notes, Role};
-use masks::{contains, take_out};
+use covering::notes::{NONE, Note, Notes};
+use masks::{contains, members, take_out};
 
-/// What the coverings do with every sensor, read off one of them.
+/// What the coverings do with every sensor, read off one of them. Arrays of fixed length, since there is no heap.
 #[derive(Clone, Copy)]
 pub struct Spares {
     /// For each sensor its slot in that covering, or `NONE`.
@@ -31,9 +30,7 @@ fn rows(notes: &Notes, cands: &[u64; 64], slots: u64) -> [u64; 64]
     ensures { Rowed cands.now (sensor_of notes.now) slots 0 result }
 {
     let mut rows = [0; 64];
-    let mut left = slots;
-    while let Some((v, rest)) = split(left) {
-        left = rest;
+    for v in members(slots) {
         rows[v as usize] = cands[notes.pairs.notes[v as usize] as usize] & slots;
     }
     rows
@@ -41,7 +38,7 @@ fn rows(notes: &Notes, cands: &[u64; 64], slots: u64) -> [u64; 64]
 
 /// Looks at all sensors at once, in a covering where all sensors but the idle ones have a slot.
 pub fn spare_all(notes: &Notes, cands: &[u64; 64]) -> Spares
-    ensures { (sensors claimed : ℕ) → NotesOf (candidate cands.now) sensors claimed notes.now → Busy notes.now.pairs.sensors notes.now.pairs.idle notes.now.pairs.owner → SparesOf (candidate cands.now) sensors claimed result }
+    ensures { (sensors claimed : ℕ) → NotesOf (candidate cands.now) sensors claimed notes.now → AllBusy notes.now.pairs → SparesOf (candidate cands.now) sensors claimed result }
 {
     let bound = take_out(notes.pairs.claimed, spared(notes, cands));
     if bound == 0 {
@@ -60,17 +57,17 @@ pub fn spare_all(notes: &Notes, cands: &[u64; 64]) -> Spares
     }
 }
 
-/// What the coverings do with sensor i. A number that is none of the sensors is free.
-pub fn role(spares: &Spares, i: u8) -> Role
+/// The group of a sensor i that every covering uses; None where some covering leaves i out, as each does a number that is none of the sensors.
+pub fn role(spares: &Spares, i: u8) -> Option<u64>
     ensures { (can : ℕ → ℕ → Bool) (sensors claimed : ℕ) → SparesOf can sensors claimed spares.now → Plays can sensors claimed i result }
 {
     if i >= NONE {
-        return Role::Free;
+        return None;
     }
     let u = spares.owner[i as usize];
     if contains(spares.bound, u) {
-        Role::Bound(spares.groups[u as usize])
+        Some(spares.groups[u as usize])
     } else {
-        Role::Free
+        None
     }
 }

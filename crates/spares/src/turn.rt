@@ -19,6 +19,7 @@ pub fn turn(rows: &[u64; 64]) -> [u64; 64]
     ensures { (u v : ℕ) → u < 64 → has (slice_index result u) v ≡ (nat_lt v 64 && has (slice_index rows.now v) u) }
 {
     let mut turned = [0; 64];
+    // Counted, since the numbers of the two rows are what is taken in; chunks of two rows would have to be numbered as well.
     for two in 0..32u8 {
         let i = 2 * two;
         let j = i + 1;

@@ -1,2 +1,3 @@
 pub mod Lines
+pub mod Pens
 pub mod Printed

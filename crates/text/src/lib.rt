@@ -1,5 +1,5 @@
 #![tactic(auto)]
 
 pub mod listing;
-mod pieces;
+mod pen;
 pub mod refused;

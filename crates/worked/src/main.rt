@@ -1,16 +1,15 @@
 //! The worked examples through the planner's own calls, and a sheet from its bytes to its listing.
 #![tactic(auto)]
 
-use anyhow::anyhow;
+use anyhow::Context;
 use board::refusal::Refusal;
-use examples::table::{Example, SLOTS, table};
+use examples::table::{Boxed, Example, SLOTS, table};
 use kinds::SheetRule;
 use masks::{all_below, take_out};
 use plan::draft::Draft;
 use plan::settled::Settled;
 use planner::printing::print_sheet;
 use planner::rest::settle;
-use sets::row::Row;
 use std::io::Write;
 use text::listing::LONGEST_LISTING;
 
@@ -38,9 +37,7 @@ fn main(rt: HostRuntime) -> anyhow::Result<()> {
 fn try_example(rt: &HostRuntime, example: &Example) -> anyhow::Result<()> {
     let mut places = [example.rule; 1];
     let mut draft = Draft::begin(&mut places);
-    if enter(&mut draft, example).is_err() {
-        return Err(anyhow!("the example is refused"));
-    }
+    enter(&mut draft, example).context("the example is refused")?;
     let settled = settle(draft);
     if is_expected(rt, &settled, example)? {
         rt.println("  as expected")?;
@@ -51,13 +48,14 @@ fn try_example(rt: &HostRuntime, example: &Example) -> anyhow::Result<()> {
 // Enters the board, the box and the rule.
 fn enter(draft: &mut Draft<'_, SheetRule>, example: &Example) -> Result<(), Refusal> {
     draft.new(example.sensors, SLOTS, example.sets, example.kinds)?;
-    for sensor in 0..example.sensors {
-        draft.limit(sensor, at(&example.given.0, sensor))?;
+    let Boxed(candidates, lower, upper) = example.given;
+    for (sensor, mask) in (0..example.sensors).zip(candidates) {
+        draft.limit(sensor, mask)?;
     }
-    for set in 0..example.sets {
+    for (set, (least, most)) in (0..example.sets).zip(lower.into_iter().zip(upper)) {
         let all = all_below(draft.kind_size(set));
-        draft.bar(set, take_out(all, at(&example.given.2, set)))?;
-        draft.claim(set, at(&example.given.1, set))?;
+        draft.bar(set, take_out(all, most))?;
+        draft.claim(set, least)?;
     }
     draft.post(example.rule)
 }
@@ -68,42 +66,19 @@ fn is_expected(
     settled: &Settled<'_, SheetRule>,
     example: &Example,
 ) -> anyhow::Result<bool> {
-    let mut same = settled.dead() == (example.gives.0[0] == 0);
+    let Boxed(candidates, lower, upper) = example.gives;
+    let mut same = settled.dead() == (candidates[0] == 0);
     if !same {
         rt.println("  dead where it should live, or alive where it should be dead")?;
     }
-    for sensor in 0..example.sensors {
-        let Ok(found) = settled.candidates(sensor) else {
-            return Err(anyhow!("no such sensor"));
-        };
-        let agrees = tell(
-            rt,
-            "candidates of sensor",
-            sensor,
-            found,
-            at(&example.gives.0, sensor),
-        )?;
-        same = same & agrees;
+    for (sensor, expected) in (0..example.sensors).zip(candidates) {
+        let found = settled.candidates(sensor).context("no such sensor")?;
+        same &= tell(rt, "candidates of sensor", sensor, found, expected)?;
     }
-    for set in 0..example.sets {
-        let Ok(found) = settled.bounds(set) else {
-            return Err(anyhow!("no such set"));
-        };
-        let lower = tell(
-            rt,
-            "lower bound of set",
-            set,
-            found.lower,
-            at(&example.gives.1, set),
-        )?;
-        let upper = tell(
-            rt,
-            "upper bound of set",
-            set,
-            found.upper,
-            at(&example.gives.2, set),
-        )?;
-        same = same & lower & upper;
+    for (set, (least, most)) in (0..example.sets).zip(lower.into_iter().zip(upper)) {
+        let found = settled.bounds(set).context("no such set")?;
+        same &= tell(rt, "lower bound of set", set, found.lower, least)?;
+        same &= tell(rt, "upper bound of set", set, found.upper, most)?;
     }
     Ok(same)
 }
@@ -122,20 +97,10 @@ fn tell(
     Ok(found == expected)
 }
 
-// The mask of a sensor or a set; none beyond the last.
-fn at(masks: &[u64], number: u8) -> u64 {
-    match masks.get(number as usize) {
-        Some(mask) => *mask,
-        None => 0,
-    }
-}
-
 fn list_sheet(rt: &HostRuntime) -> anyhow::Result<()> {
-    let mut places = [SheetRule::Row(Row { a: 0 }); 8];
+    let mut places = [SheetRule::default(); 8];
     let mut out = [0u8; LONGEST_LISTING];
-    let Ok(end) = print_sheet(TWO_BUSES, &mut places, &mut out) else {
-        return Err(anyhow!("the output is too short"));
-    };
+    let end = print_sheet(TWO_BUSES, &mut places, &mut out).context("the output is too short")?;
     rt.stdout().write_all(&out[..end])?;
     Ok(())
 }

@@ -3,7 +3,8 @@ use Rattle.model.specs.Box.{cand}
 use Rattle.model.specs.Calls.{State}
 use Rattle.model.specs.Capacity.{most_places}
 use Rattle.kinds.specs.declared.SheetRule.{SheetRule}
-use Rattle.load.specs.Loads.{state_of}
+use Rattle.plan.specs.States.{state_of}
+use Rattle.load.specs.Loads.{cause_number}
 use Rattle.driver.proofs.Firsts.{first-left, first-refused}
 use Rattle.driver.proofs.first_left.Goals as goal
 
@@ -21,4 +22,4 @@ returns-in-Err c =
     let d = c.begin-draft.result in
     let f = c.in-Err.field-0 in
     let size : length d.places.now ≡ most_places = ap length c.begin-draft.ensures.places in
-    first-refused c.args.file.now (length d.places.now) (f.number, f.position) size c.in-Err.ensures.answer
+    first-refused c.args.file.now (length d.places.now) (cause_number f.cause, f.position) size c.in-Err.ensures.answer

@@ -6,7 +6,7 @@ loop-rule-init g c = none_yet c.args.rules.now _
 
 pub loop-rule-preserved : goal.loop-rule-preserved
 loop-rule-preserved g c =
-    let e = c.step-moved.ensures in
+    let e = c.step-changed.ensures in
     one_more c.args.rules.now c.loop-rule.rule-index c.rule-item.result _ _ _ _ _ c.loop-rule-test.true c.rule-item.is c.loop-rule.invariant
     (alone c.rule-item.result _ _ _ e.board e.model e.moved)
 

@@ -1,24 +1,19 @@
-use Rattle.std.proofs.Common.{◌≡◌, ℕ, ◌-◌, ◌^◌, ◌≤◌, min, Bool, true, false, cond, refl, ap, ◌∙◌, subst, arith, rules}
+use Rattle.std.proofs.Common.{◌≡◌, ℕ, ◌-◌, ◌^◌, ◌≤◌, ◌++◌, min, Bool, true, false, cond, refl, sym, ap, ◌∙◌, subst, drop, replicate, arith, rules}
 use Rattle.masks.specs.Masks.{has}
 use Rattle.model.specs.Capacity.{most_sensors, most_sets}
 use Rattle.model.specs.Board.{board_of, room}
-use Rattle.board.proofs.Fills.{Filled, none, one_more, box-full, full-rows}
+use Rattle.board.proofs.Fills.{Filled, none, front, one_more, box-full, full-rows}
 use Rattle.board.proofs.fresh.fresh.Goals as goal
 
 -- a mask of all numbers below a count that the board allows
 all : (n r : ℕ) → n ≤ 64 → r ≡ 2 ^ min n 64 - 1 → r ≡ 2 ^ n - 1
 all n r h e = e ∙ ap (λ (k : ℕ). 2 ^ k - 1) (omega arith)
 
-pub loop-i-init : goal.loop-i-init
-loop-i-init c = none _ most_sensors
-
-pub loop-i-preserved : goal.loop-i-preserved
-loop-i-preserved c = one_more _ most_sensors c.loop-i.i c.loop-i.cands _ (omega (arith, c.requires.0.1)) (all c.args.m _ c.requires.1.1 c.all_below-slots.ensures) c.loop-i.invariant
-
 pub loop-j-init : goal.loop-j-init
 loop-j-init c =
-    let e : c.loop-i.i ≡ c.args.n = search rules in
-    (subst (λ z. Filled (λ _. 2 ^ c.args.m - 1) most_sensors z c.loop-i.cands) e c.loop-i.invariant, none _ most_sets)
+    let slots = all c.args.m _ c.requires.1.1 c.all_below-slots.ensures in
+    let row = c.front-cands.ensures ∙ ap (λ v. replicate c.args.n v ++ drop c.args.n (replicate 64 0)) slots in
+    (subst (Filled (λ _. 2 ^ c.args.m - 1) most_sensors c.args.n) (sym row) (front (2 ^ c.args.m - 1) most_sensors c.args.n c.requires.0.1), none _ most_sets)
 
 pub loop-j-preserved : goal.loop-j-preserved
 loop-j-preserved c =

@@ -4,8 +4,5 @@ use Rattle.model.specs.Board.{board_of, room}
 use Rattle.board.proofs.Fills.{Filled}
 use Rattle.board.proofs.fresh.fresh.Given as goal
 
-abbrev pub invariant-loop-i : goal.invariant-loop-i
-invariant-loop-i l = Filled (λ _. 2 ^ l.m - 1) most_sensors l.i l.cands
-
 abbrev pub invariant-loop-j : goal.invariant-loop-j
 invariant-loop-j l = Filled (λ _. 2 ^ l.m - 1) most_sensors l.n l.cands × Filled (λ j. 2 ^ room (board_of l.n l.m l.k l.kinds) j - 1) most_sets l.j l.hi

@@ -1,7 +1,6 @@
 use Rattle.std.proofs.Common.{sym, ◌∙◌}
 use Rattle.std.proofs.lemmas.Bool.{and_parts}
 use Rattle.masks.proofs.Masks.{has-and}
-use Rattle.covering.proofs.Singles.{drop-low}
 use Rattle.covering.proofs.bits.split_by.Goals as goal
 
 pub returns-in-Some : goal.returns-in-Some
@@ -10,5 +9,5 @@ returns-in-Some c =
     record {
       low = p.low;
       member = (and_parts _ _ (sym (has-and c.args.mask c.args.rather c.in-Some.i) ∙ p.member)).0;
-      others = drop-low _ c.in-Some.i p.low c.drop_one.ensures.any;
+      others = c.drop_one.ensures.low p.low;
     }

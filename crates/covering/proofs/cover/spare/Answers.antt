@@ -1,23 +1,25 @@
-use Rattle.std.proofs.Common.{ℕ, ◌^◌, ◌<◌, get_or, sym, subst, rules}
-use Rattle.covering.specs.Covering.{Avoidable, Needed}
-use Rattle.covering.specs.Search.{Owners, Led, Stuck}
-use Rattle.covering.proofs.Singles.{drop-low}
-use Rattle.covering.proofs.Held.{matching, at-notes, slot, sensors-low, claimed-low}
+use Rattle.std.proofs.Common.{ℕ, ◌^◌, ◌<◌, get_or, sym, subst, Result, Ok, Err, MatchResult, MatchOption, rules}
+use Rattle.std.specs.Result.{result_err}
+use Rattle.std.proofs.lemmas.Result.{MatchResult-weaker}
+use Rattle.covering.specs.Covering.{Avoidable}
+use Rattle.covering.specs.Roles.{Plays}
+use Rattle.covering.specs.Search.{Owners}
+use Rattle.covering.proofs.Held.{at-notes, slot, sensors-low, claimed-low}
 use Rattle.covering.proofs.Coverings.{idle-avoidable, outside, unowned, owners-without, led-avoidable, stuck-needed}
 use Rattle.covering.proofs.cover.spare.Goals as goal
 
-pub returns-then-i-ge-NONE-clause-role : goal.returns-then-i-ge-NONE-clause-role
-returns-then-i-ge-NONE-clause-role c can s k f =
+pub returns-then-i-ge-NONE : goal.returns-then-i-ge-NONE
+returns-then-i-ge-NONE c can s k f =
     let n = c.args.notes.now in
     at-notes (λ x y. Avoidable can x y c.args.i) can s k n f (λ o.
-    idle-avoidable c.args.i (matching n) o.takers (outside c.args.i (matching n) n.sized c.if-i-ge-NONE.true))
+    idle-avoidable c.args.i n.matching o.takers (outside c.args.i n.matching n.sized c.if-i-ge-NONE.true))
 
-pub returns-then-u-eq-NONE-clause-role : goal.returns-then-u-eq-NONE-clause-role
-returns-then-u-eq-NONE-clause-role c can s k f =
+pub returns-then-u-eq-NONE : goal.returns-then-u-eq-NONE
+returns-then-u-eq-NONE c can s k f =
     let n = c.args.notes.now in
     let l : n.pairs.claimed < 2 ^ 64 = search rules in
     at-notes (λ x y. Avoidable can x y c.args.i) can s k n f (λ o.
-    idle-avoidable c.args.i (matching n) o.takers (unowned c.args.i (matching n) l c.if-u-eq-NONE.true))
+    idle-avoidable c.args.i n.matching o.takers (unowned c.args.i n.matching l c.if-u-eq-NONE.true))
 
 pub search-requires : goal.search-requires
 search-requires c =
@@ -26,37 +28,23 @@ search-requires c =
     let low = slot n c.args.i l c.if-u-eq-NONE.false in
     record {
       low = low;
-      owners = subst (λ (x : ℕ). Owners n.pairs.owner x (get_or n.pairs.owner c.args.i 0)) (sym (drop-low _ c.args.i l c.drop_one.ensures.any))
-          (owners-without (matching n) (sensors-low n) (claimed-low n (search rules)) l low);
+      owners = subst (λ (x : ℕ). Owners n.pairs.owner x (get_or n.pairs.owner c.args.i 0)) (sym (c.drop_one.ensures.low l))
+          (owners-without n.matching (sensors-low n) (claimed-low n (search rules)) l low);
     }
 
-pub returns-in-Ok-clause-role : goal.returns-in-Ok-clause-role
-returns-in-Ok-clause-role c can s k f =
+-- what a search says where only its group is handed on
+err-part : (A : Type 0) (B : ℕ → Type 0) (r : Result ℕ ℕ) → MatchResult r (λ _. A) B → MatchOption (result_err r) A B
+err-part A B (Ok t) a = a
+err-part A B (Err z) b = b
+
+pub returns : goal.returns
+returns c can s k f =
     let n = c.args.notes.now in
     let l = c.if-i-ge-NONE.false in
-    let low : n.pairs.claimed < 2 ^ 64 = search rules in
-    let led = subst (λ (x : ℕ). Led n.pairs.takers n.pairs.owner x (get_or n.pairs.owner c.args.i 0) c.search.new.from c.in-Ok.field-0) (drop-low _ c.args.i l c.drop_one.ensures.any) c.in-Ok.ensures in
-    at-notes (λ x y. Avoidable can x y c.args.i) can s k n f (λ o.
-    led-avoidable (matching n) (sensors-low n) (claimed-low n low) l (slot n c.args.i l c.if-u-eq-NONE.false) o.takers led)
-
-pub returns-in-Err-clause-role : goal.returns-in-Err-clause-role
-returns-in-Err-clause-role c can s k f =
-    let n = c.args.notes.now in
-    let l = c.if-i-ge-NONE.false in
-    let low : n.pairs.claimed < 2 ^ 64 = search rules in
-    let stuck = subst (λ (x : ℕ). Stuck n.pairs.takers n.pairs.owner x (get_or n.pairs.owner c.args.i 0) c.in-Err.group) (drop-low _ c.args.i l c.drop_one.ensures.any) c.in-Err.ensures in
-    at-notes (λ x y. Needed can x y c.args.i c.in-Err.group) can s k n f (λ o.
-    stuck-needed (matching n) (sensors-low n) (claimed-low n low) l (slot n c.args.i l c.if-u-eq-NONE.false) o.takers stuck)
-
--- the same by cases
-pub returns-then-i-ge-NONE-clause-plays : goal.returns-then-i-ge-NONE-clause-plays
-returns-then-i-ge-NONE-clause-plays c = returns-then-i-ge-NONE-clause-role c
-
-pub returns-then-u-eq-NONE-clause-plays : goal.returns-then-u-eq-NONE-clause-plays
-returns-then-u-eq-NONE-clause-plays c = returns-then-u-eq-NONE-clause-role c
-
-pub returns-in-Ok-clause-plays : goal.returns-in-Ok-clause-plays
-returns-in-Ok-clause-plays c = returns-in-Ok-clause-role c
-
-pub returns-in-Err-clause-plays : goal.returns-in-Err-clause-plays
-returns-in-Err-clause-plays c = returns-in-Err-clause-role c
+    let low = claimed-low n (search rules) in
+    let u = slot n c.args.i l c.if-u-eq-NONE.false in
+    let found = simp (c.drop_one.ensures.low l) at c.search.ensures in
+    at-notes (λ x y. Plays can x y c.args.i c.err.result) can s k n f (λ o. simp c.err.ensures.value
+    (err-part _ _ c.search.result (MatchResult-weaker c.search.result found
+    (λ t led. led-avoidable n.matching (sensors-low n) low l u o.takers led)
+    (λ z stuck. stuck-needed n.matching (sensors-low n) low l u o.takers stuck))))

@@ -1,5 +1,4 @@
 use Rattle.std.proofs.Common.{refl, arith, rules}
-use Rattle.covering.proofs.Singles.{with-low, drop-low}
 use Rattle.covering.proofs.Flips.{flipping-start, flipping-low, flipping-from, flipping-done, flipping-on, placed-start, placed-next, placed-last, placed-busy}
 use Rattle.covering.proofs.flip.flip.Goals as goal
 use Rattle.covering.proofs.flip.flip.Goals.{else-loop-step-test, then-loop-step-test+then-u-w}
@@ -38,7 +37,7 @@ returns c =
     let first = flipping-low (search rules) c.requires.unclaimed (flipping-start (search rules) (search rules) c.requires.held c.requires.led) in
     elim c.loop-step-test.branch [
       | else-loop-step-test t ↦ absurd (let l = h.3.left in let e = t.loop-step-test.false in omega arith)
-      | then-loop-step-test+then-u-w t ↦ simp (with-low _ c.args.w c.requires.low c.with-pairs.ensures.any, drop-low _ c.args.free first c.drop_one-pairs.ensures.any, t.pairs-is, h.0, h.1, h.2, h.4)
+      | then-loop-step-test+then-u-w t ↦ simp (c.with-pairs.ensures.low c.requires.low, c.drop_one-pairs.ensures.low first, t.pairs-is, h.0, h.1, h.2, h.4)
           (record { same = (refl, refl); more = refl; busy = λ b. placed-busy c.args.pairs.now.sensors c.args.pairs.now.idle c.args.free c.args.pairs.now.owner _ b (placed-last h.5 low (flipping-from (search rules) c.requires.unclaimed h.3) h.3.flip.long.1); held = flipping-done (search rules) c.requires.unclaimed h.3 t.if-u-w.true })
     ]
 

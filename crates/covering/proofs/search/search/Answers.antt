@@ -1,14 +1,14 @@
 use Rattle.std.proofs.Common.{◌≡◌, ℕ, get_or, refl, ap, ◌∙◌, arith, rules}
 use lib.Bits.{bit_and, bit_or, or_zero_r}
 use lib.Count.{ones}
-use Rattle.covering.proofs.Singles.{drop-ones, with-low, drop-low}
+use Rattle.covering.proofs.Singles.{drop-ones}
 use Rattle.covering.proofs.Hunts.{start, round-level, round-start, round-end, round-found, round-slot, round-seen, round_same}
 use Rattle.covering.proofs.search.search.Goals as goal
 use Rattle.covering.proofs.search.search.Goals.{in_default, in-Some+in-Some-split_by+then-v-eq-NONE}
 
 pub search-init : goal.search-init
 search-init c =
-    simp (with-low 0 c.args.w c.requires.low c.with-reached.ensures.any)
+    simp (c.with-reached.ensures.low c.requires.low)
     (start c.args.pairs.now.takers c.args.pairs.now.owner c.args.sensors c.args.w _ c.requires.low (search rules))
 
 pub loop-i-init : goal.loop-i-init
@@ -25,7 +25,7 @@ loop-i-preserved c =
     let r = c.loop-i.invariant.0 in
     let p = c.in-Some-split_by.ensures in
     let l = round-slot r p c.requires.owners c.if-v-eq-NONE.false in
-    simp (with-low _ _ l c.with-reached-in-Some-split_by.ensures.any, with-low _ _ l c.with-pending.ensures.any)
+    simp (c.with-reached-in-Some-split_by.ensures.low l, c.with-pending.ensures.low l)
     (round-seen r p c.requires.owners l, round_same r p c.requires.owners l ∙ c.loop-i.invariant.1)
 
 pub search-smaller : goal.search-smaller
@@ -35,15 +35,15 @@ search-smaller c =
     let none : ones (bit_or u c.loop-i.fresh) ≡ ones u = ap (λ (x : ℕ). ones (bit_or u x)) c.in_default-split_by.ensures ∙ ap ones (or_zero_r u) in
     let all : ones (bit_or u (bit_and (get_or c.args.pairs.now.takers c.in-Some.u 0) c.search.unseen)) ≡ ones c.search.unseen =
     simp c.take_out-unseen.ensures (round-level c.search.unseen (get_or c.args.pairs.now.takers c.in-Some.u 0)) in
-    simp (drop-low _ c.in-Some.u c.in-Some.ensures.low c.drop_one-pending.ensures.any) (omega (arith, c.loop-i.invariant.1))
+    simp (c.drop_one-pending.ensures.low c.in-Some.ensures.low) (omega (arith, c.loop-i.invariant.1))
 
 pub search-preserved : goal.search-preserved
-search-preserved c = simp (drop-low _ c.in-Some.u c.in-Some.ensures.low c.drop_one-pending.ensures.any) (round-end c.loop-i.invariant.0 c.in_default-split_by.ensures)
+search-preserved c = simp (c.drop_one-pending.ensures.low c.in-Some.ensures.low) (round-end c.loop-i.invariant.0 c.in_default-split_by.ensures)
 
-pub returns-in-Some-free : goal.returns-in-Some-free
-returns-in-Some-free c = elim c.match-split.branch [
-  | in_default t ↦ (let z : ◌≡◌ {A = ℕ} 0 1 = cc (t.free-is, c.in-Some-free.is) in absurd (omega arith))
-  | in-Some+in-Some-split_by+then-v-eq-NONE t ↦
-      (let f : c.in-Some-free.i ≡ t.in-Some-split_by.i = cc (t.free-is, c.in-Some-free.is) in
-      simp (t.from-is, f) (round-found t.loop-i.invariant.0 t.in-Some-split_by.ensures t.if-v-eq-NONE.true))
+pub returns : goal.returns
+returns c = elim c.match-split.branch [
+  | in_default t ↦ simp (c.ok_or.ensures.value, t.free-is, t.reached-is)
+      (record { from = c.search.from; unseen = c.search.unseen; hunt = simp t.in_default.ensures at c.search.invariant })
+  | in-Some+in-Some-split_by+then-v-eq-NONE t ↦ simp (c.ok_or.ensures.value, t.free-is, t.from-is)
+      (round-found t.loop-i.invariant.0 t.in-Some-split_by.ensures t.if-v-eq-NONE.true)
 ]

@@ -1,9 +1,5 @@
-use lib.Count.{ones}
 use Rattle.covering.proofs.Turns.{Added}
 use Rattle.covering.proofs.takers.add_takers.Given as goal
 
 abbrev pub invariant-loop-v : goal.invariant-loop-v
-invariant-loop-v l = Added l.slots l.left l.who l.initial.takers l.takers
-
-abbrev pub decreases-loop-v : goal.decreases-loop-v
-decreases-loop-v l = ones l.left
+invariant-loop-v l = Added l.slots l.v-iterator.left l.who l.initial.takers l.takers

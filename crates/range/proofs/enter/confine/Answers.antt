@@ -6,11 +6,7 @@ use Rattle.board.proofs.Shapes.{is-kept, some}
 use Rattle.range.proofs.Entering.{confined}
 use Rattle.range.proofs.enter.confine.Goals as goal
 
-pub returns : goal.returns
-returns c =
+pub returns-clause-model : goal.returns-clause-model
+returns-clause-model c =
     let d = c.args.d.now in
-    record {
-      board = c.bar.ensures.board;
-      model = confined (board d) (some d) c.args.set c.args.mask (model d) _ (is-kept d) (c.bar.ensures.model ∙ ap (λ (m : ℕ). narrow (board d) (bar c.args.set m) (model d)) (c.take_out-outside.ensures ∙ ap (λ (m : ℕ). without m c.args.mask) c.upper.ensures));
-      moved = c.bar.ensures.moved;
-    }
+    confined (board d) (some d) c.args.set c.args.mask (model d) _ (is-kept d) (c.bar.ensures.model ∙ ap (λ (m : ℕ). narrow (board d) (bar c.args.set m) (model d)) (c.take_out-outside.ensures ∙ ap (λ (m : ℕ). without m c.args.mask) c.upper.ensures))

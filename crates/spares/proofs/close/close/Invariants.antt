@@ -1,10 +1,6 @@
-use lib.Count.{ones}
 use Rattle.masks.specs.Masks.{past}
 use Rattle.spares.specs.Closure.{Closing}
 use Rattle.spares.proofs.close.close.Given as goal
 
 abbrev pub invariant-loop-k : goal.invariant-loop-k
-invariant-loop-k l = Closing (past l.among) l.initial.next l.among l.left l.next
-
-abbrev pub decreases-loop-k : goal.decreases-loop-k
-decreases-loop-k l = ones l.left
+invariant-loop-k l = Closing (past l.among) l.initial.next l.among l.k-iterator.left l.next

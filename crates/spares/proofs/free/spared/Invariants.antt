@@ -2,7 +2,7 @@ use Rattle.std.proofs.Common.{◌≡◌, ℕ, true}
 use lib.Count.{ones}
 use Rattle.masks.specs.Masks.{has, without}
 use Rattle.covering.specs.Covering.{candidate}
-use Rattle.covering.specs.Matching.{Busy}
+use Rattle.covering.specs.Paired.{AllBusy}
 use Rattle.covering.specs.Notes.{NotesOf, sensor_of}
 use Rattle.spares.specs.Free.{Freed}
 use Rattle.spares.proofs.free.spared.Given as goal
@@ -11,7 +11,7 @@ use Rattle.spares.proofs.free.spared.Given as goal
 abbrev pub invariant-loop-v : goal.invariant-loop-v
 invariant-loop-v l =
     ((v : ℕ) → has l.left v ≡ true → has l.claimed v ≡ true)
-    × (NotesOf (candidate l.cands) l.notes.pairs.sensors l.claimed l.notes → Busy l.notes.pairs.sensors l.notes.pairs.idle l.notes.pairs.owner
+    × (NotesOf (candidate l.cands) l.notes.pairs.sensors l.claimed l.notes → AllBusy l.notes.pairs
     → Freed (candidate l.cands) l.notes.pairs.sensors l.claimed (sensor_of l.notes) (without l.claimed l.left) l.free)
 
 abbrev pub decreases-loop-v : goal.decreases-loop-v

@@ -1,6 +1,0 @@
-use Rattle.roots.specs.Roots.{implications}
-use Rattle.roots.proofs.Sweeps.{Once}
-use Rattle.roots.proofs.roots.sweep.Given as goal
-
-abbrev pub invariant-loop-sensor : goal.invariant-loop-sensor
-invariant-loop-sensor l = Once (implications l.g l.s l.t l.sensor) l.initial.d l.d l.moved

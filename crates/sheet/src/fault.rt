@@ -1,0 +1,12 @@
+ghost use Rattle.std.specs.Prelude.{◌≤◌};
+ghost use Rattle.sheet.specs.declared.format.TheConstants.{LONGEST};
+
+use crate::format::Cause;
+
+/// A refusal of the reader, and where in the file.
+#[derive(Clone, Copy, Debug, PartialEq, Eq)]
+pub struct Fault {
+    pub cause: Cause,
+    pub position: usize,
+    ghost near: { position ≤ LONGEST },
+}
