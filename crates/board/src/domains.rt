@@ -9,8 +9,8 @@ pub const MOST_SLOTS: usize = 64;
 pub const MOST_SETS: usize = 32;
 
 // A board with its box: the candidates of each sensor and the bounds of each set, as masks.
-// It is the dead box, all zeros, or a live box on the board, with zeros beyond. The arrays are of fixed length, since there is no heap;
-// the bounds stand in two, as in the definitions: an entry touches one of them.
+// It is the dead box, all zeros, or a live box on the board, with zeros beyond. The arrays are of fixed length, since there is no heap and a box is
+// copied; the bounds stand in two, as in the definitions: an entry touches one of them.
 #[derive(Clone, Copy)]
 pub struct Domains {
     pub(crate) sensors: u8,

@@ -58,9 +58,8 @@ impl Domains {
     pub fn fit_group(&self, g: u64, s: u8, t: u8) -> Result<(), Refusal>
         ensures { outcome result ≡ refusal (group_causes (board self.now) g s t) }
     {
-        if s >= self.sets || t >= self.sets {
-            return Err(Refusal::Set);
-        }
+        self.fit_set(s)?;
+        self.fit_set(t)?;
         if !is_below(g, self.sensors) {
             return Err(Refusal::Mask);
         }

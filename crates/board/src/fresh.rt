@@ -12,7 +12,8 @@ use crate::refusal::Refusal;
 use masks::{all_below, contains, is_below};
 
 impl Domains {
-    // The box of a new plan: all slots are candidates, every lower bound is empty, every upper bound is full.
+    // The box of a new plan: all slots are candidates, every lower bound is empty, every upper bound is full. Four numbers, here and above: a struct
+    // would ask each caller to make one.
     pub fn new(n: u8, m: u8, k: u8, kinds: u64) -> Result<Domains, Refusal>
         ensures refusal { outcome result ≡ refusal (new_causes n m k kinds) }
         ensures made { IfOk result (λ d. (board d ≡ board_of n m k kinds) × (model d ≡ full (board_of n m k kinds))) }

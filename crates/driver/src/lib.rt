@@ -49,6 +49,7 @@ pub fn slotplan_runs(file: &[u8], times: u32) -> u64
 pub fn slotplan_loads(file: &[u8], times: u32) -> u32
     ensures { result ≡ accepted_of file.now times }
 {
+    // a count of turns, and no index
     let mut accepted = 0;
     for _time in 0..times {
         if is_loaded(file) {

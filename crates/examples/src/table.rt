@@ -17,7 +17,7 @@ pub const EXAMPLES: usize = 18;
 // How many slots each board has.
 pub const SLOTS: u8 = 5;
 
-// The candidates of each sensor, the lower bounds and the upper bounds of the sets; zeros beyond the board.
+// The candidates of each sensor, the lower bounds and the upper bounds of the sets, in two lists as in the definitions; zeros beyond the board.
 #[derive(Clone, Copy)]
 pub struct Boxed(pub [u64; 6], pub [u64; 2], pub [u64; 2]);
 

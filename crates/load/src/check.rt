@@ -78,7 +78,11 @@ fn check_records(mut reader: Reader<'_>, mut sketch: Sketch) -> Result<(), LoadF
 {
     loop {
         let position = reader.position() as u32;
-        let Some(one) = reader.next()? else {
+        let next = reader.next().map_err(|fault| LoadFault {
+            cause: LoadCause::Sheet(fault.cause),
+            position,
+        })?;
+        let Some(one) = next else {
             return Ok(());
         };
         sketch.take(Act::from(one)).map_err(|refusal| LoadFault {
@@ -93,5 +97,9 @@ fn check_records(mut reader: Reader<'_>, mut sketch: Sketch) -> Result<(), LoadF
 pub(crate) fn check(file: &[u8], places: usize) -> Result<(), LoadFault>
     ensures { fault_of result ≡ load_fault file.now places }
 {
-    check_records(Reader::open(file)?, Sketch::begin(places))
+    let reader = Reader::open(file).map_err(|fault| LoadFault {
+        cause: LoadCause::Sheet(fault.cause),
+        position: 0,
+    })?;
+    check_records(reader, Sketch::begin(places))
 }

@@ -1,10 +1,9 @@
 //! Why a file is refused, and where.
 ghost use Rattle.std.specs.Prelude.{◌≡◌, ◌++◌, Some, codes, decimal};
-ghost use Rattle.load.specs.declared.fault.LoadCause.TheVariants.{Sheet};
 ghost use Rattle.load.specs.Loads.{cause_number};
 
 use board::refusal::Refusal;
-use sheet::{Cause, Fault};
+use sheet::Cause;
 use std::error::Error;
 use std::fmt;
 
@@ -31,17 +30,6 @@ impl From<LoadCause> for u8 {
 pub struct LoadFault {
     pub cause: LoadCause,
     pub position: u32,
-}
-
-impl From<Fault> for LoadFault {
-    ghost from_gives = { λ read load. (load.cause ≡ Sheet read.cause) × (load.position ≡ read.position) };
-
-    fn from(read: Fault) -> LoadFault {
-        LoadFault {
-            cause: LoadCause::Sheet(read.cause),
-            position: read.position as u32,
-        }
-    }
 }
 
 impl fmt::Display for LoadFault {

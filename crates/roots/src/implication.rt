@@ -81,9 +81,7 @@ fn fit_excluded(d: &Domains, sensor: u8, s: u8) -> Result<(), Refusal>
     ensures { outcome result ≡ refusal (excluded_causes (board d.now) sensor s) }
 {
     d.fit_sensor(sensor)?;
-    if s >= d.sets() {
-        return Err(Refusal::Set);
-    }
+    d.fit_set(s)?;
     if d.of_slots(s) {
         return Err(Refusal::Kind);
     }
@@ -95,9 +93,8 @@ fn fit_linked(d: &Domains, sensor: u8, s: u8, t: u8) -> Result<(), Refusal>
     ensures { outcome result ≡ refusal (linked_causes (board d.now) sensor s t) }
 {
     d.fit_sensor(sensor)?;
-    if s >= d.sets() || t >= d.sets() {
-        return Err(Refusal::Set);
-    }
+    d.fit_set(s)?;
+    d.fit_set(t)?;
     if d.of_slots(s) || !d.of_slots(t) {
         return Err(Refusal::Kind);
     }

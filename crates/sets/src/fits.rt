@@ -18,9 +18,8 @@ pub fn fit_set(d: &Domains, a: u8) -> Result<(), Refusal>
 pub fn fit_pair(d: &Domains, a: u8, b: u8) -> Result<(), Refusal>
     ensures { outcome result ≡ refusal (pair_causes (board d.now) a b) }
 {
-    if a >= d.sets() || b >= d.sets() {
-        return Err(Refusal::Set);
-    }
+    fit_set(d, a)?;
+    fit_set(d, b)?;
     if d.of_slots(a) != d.of_slots(b) {
         return Err(Refusal::Kind);
     }

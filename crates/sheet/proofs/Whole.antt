@@ -1,13 +1,16 @@
 -- Whole files: reading and writing undo each other.
-use Rattle.std.proofs.Common.{◌≡◌, ℕ, zero, suc, ◌+◌, ◌-◌, ◌<◌, ◌≤◌, Bool, true, false, cond, not, eqb, leb, List, [], ◌∷◌, ◌++◌, length, get_or, drop, Some, None, Ok, Err, Option, Result, sym, refl, ap, ◌∙◌, subst, inl, inr, arith, length-append, length-drop}
+use Rattle.std.proofs.Common.{◌≡◌, ℕ, zero, suc, ◌+◌, ◌-◌, ◌<◌, ◌≤◌, Bool, true, false, cond, not, eqb, leb, List, [], ◌∷◌, ◌++◌, length, get_or, drop, Some, None, Ok, Err, Option, Result, MatchResult, IsErrAnd, sym, refl, ap, ◌∙◌, subst, inl, inr, arith, length-append, length-drop}
 use Rattle.std.specs.List.{flat_map, AllByRecursion}
 use Rattle.std.proofs.lemmas.List.{flat_map_more, drop_more, drop-drop, drop_at, nil_from_length}
 use Rattle.std.proofs.ByRecursion.{All-drop}
 use Rattle.std.proofs.lemmas.Bool.{cases_eq, eq-eqb, ne_eqb, le-leb, lt-leb, lt-ltb, cond-true, cond-false}
 use Rattle.std.proofs.lemmas.Bool.Decides.{nat_tests}
 use Rattle.sheet.specs.Layout.{Rec, version, longest, Bytes, headed, encode, decode}
+use Rattle.sheet.specs.declared.fault.Fault.{Fault}
+use Rattle.sheet.specs.declared.format.Cause.{Cause}
+use Rattle.sheet.specs.declared.format.Record.{Record}
 use Rattle.sheet.specs.declared.reader.Reader.{Reader}
-use Rattle.sheet.specs.Steps.{opens, ordered, turn, bare, told, onward, started, begun_at, turned, Moved}
+use Rattle.sheet.specs.Steps.{number, meant_if, step_of, answer, opens, ordered, turn, bare, told, onward, started, begun_at, turned, Moved}
 use Rattle.sheet.specs.Files.{before, follow, read_from, read_on, read_all, reads_on, then, unread, Lessens, write_all, Fair, Sheet, Undone}
 use Rattle.sheet.proofs.Records.{found, decode-encode, encode-decode, decode-fair}
 
@@ -113,15 +116,22 @@ pub moves : (x y : Reader) → y.file.now ≡ x.file.now → y.at ≡ onward x.a
 moves x y f a = record { file = f; at = a; begun = ap begun_at a ∙ begun-goes x.file.now x.at (turned x) x.begins refl }
 
 -- the same as a reader's answer and the rest
-pub told-by : (at : ℕ) (t : Result (Option (Rec × ℕ)) ℕ) (o : Option Rec) → Ok o ≡ bare t → Ok o ≡ told at t
+told-by : (at : ℕ) (t : Result (Option (Rec × ℕ)) ℕ) (o : Option Rec) → Ok o ≡ bare t → Ok o ≡ told at t
 told-by at (Ok None) o h = cc
 told-by at (Ok (Some p)) o h = cc
 told-by at (Err e) o h = cc
 
-pub told-fault : (at : ℕ) (t : Result (Option (Rec × ℕ)) ℕ) (e : ℕ) → Err e ≡ bare t → Err (e, at) ≡ told at t
+told-fault : (at : ℕ) (t : Result (Option (Rec × ℕ)) ℕ) (e : ℕ) → Err e ≡ bare t → Err (e, at) ≡ told at t
 told-fault at (Ok None) e h = cc
 told-fault at (Ok (Some p)) e h = cc
 told-fault at (Err d) e h = cc
+
+-- an answer of a step, with its place
+pub placed : (at : ℕ) (t : Result (Option (Rec × ℕ)) ℕ) (a : Result (Option Record) Cause) (b : Result (Option Record) Fault) →
+    MatchResult a (λ x. b ≡ Ok x) (λ e. IsErrAnd b (λ f. f ≡ record { cause = e; position = at })) → step_of a ≡ bare t → answer b ≡ told at t
+placed at t (Ok o) b m h = ap answer m ∙ told-by at t (meant_if o) h
+placed at t (Err e) (Ok o) m h = absurd m
+placed at t (Err e) (Err f) m h = ap (λ (g : Fault). answer (Err g)) m ∙ told-fault at t (number e) h
 
 follow-told : (file : List ℕ) (at next : ℕ) (begun : Bool) (t : Result (Option (Rec × ℕ)) ℕ) → next ≡ onward at t → follow t at (λ i. read_on file i true) ≡ then (told at t) (read_on file next (started begun t))
 follow-told file at next begun (Ok None) e = refl

@@ -1,6 +1,3 @@
-ghost use Rattle.std.specs.Prelude.{◌≤◌};
-ghost use Rattle.sheet.specs.declared.format.TheConstants.{LONGEST};
-
 use crate::format::Cause;
 
 /// A refusal of the reader, and where in the file.
@@ -8,5 +5,4 @@ use crate::format::Cause;
 pub struct Fault {
     pub cause: Cause,
     pub position: usize,
-    ghost near: { position ≤ LONGEST },
 }

@@ -53,7 +53,8 @@ impl From<Kind> for u8 {
     }
 }
 
-/// The least and the greatest length of each record kind, by its number; the first pair is for no kind.
+/// The least and the greatest length of each record kind, by its number; the first pair is for no kind. One constant table, which the reader and the
+/// writer use and a page can show.
 const LENGTHS: [(usize, usize); 12] = [
     (0, 0),
     (4 + WORD_WIDTH, 4 + WORD_WIDTH),

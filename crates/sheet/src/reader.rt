@@ -6,7 +6,7 @@ use crate::fault::Fault;
 use crate::fields::{first, is_head};
 use crate::format::{Cause, LONGEST, Record, VERSION};
 
-/// Hands out the records of a file, one at a time.
+/// Hands out the records of a file, one at a time. A refusal names a place, so the reader keeps the file and a place in it and no slice of the rest.
 #[derive(Drop)]
 pub struct Reader<'a> {
     pub(crate) file: &'a [u8],
@@ -88,10 +88,6 @@ impl<'a> Reader<'a> {
         ensures kept { is_err result ≡ true → self.new ≡ self.old }
     {
         let position = self.at;
-        // no plainer by `map_err`: its closure would need clauses of its own, since a fault lies in the file
-        match self.advance() {
-            Ok(one) => Ok(one),
-            Err(cause) => Err(Fault { cause, position }),
-        }
+        self.advance().map_err(|cause| Fault { cause, position })
     }
 }

@@ -4,7 +4,7 @@ ghost use Rattle.std.specs.Prelude.{◌≡◌, ◌+◌, ◌^◌, ◌<◌, ◌≤
 use crate::format::{Cause, Record, VERSION};
 use crate::kind::Kind;
 
-/// Writes a file into an output that was lent.
+/// Writes a file into an output that was lent, since there is no heap.
 #[derive(Drop)]
 pub struct Writer<'a> {
     pub(crate) out: &'a mut [u8],

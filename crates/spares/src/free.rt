@@ -8,6 +8,8 @@ use covering::bits::{drop_one, split};
 use covering::notes::{NONE, Notes};
 use masks::members;
 
+// Notes and candidates are lent side by side: a struct of the two would only lend them once more.
+
 /// The claimed slots that a sensor without a slot has as a candidate. Done as soon as these are all.
 fn offered(notes: &Notes, cands: &[u64; 64]) -> u64
     ensures { Offered cands.now notes.now.pairs.owner (bit_and notes.now.pairs.sensors notes.now.pairs.idle) notes.now.pairs.claimed 0 result }

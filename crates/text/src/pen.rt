@@ -8,7 +8,7 @@ use board::refusal::Refusal;
 use masks::members;
 
 // An output, and the place where the next piece goes. A piece that does not fit is not written, and the pen moves on either way:
-// over an empty output it tells how long a text is.
+// over an empty output it tells how long a text is. The output is lent, since there is no heap.
 #[derive(Drop)]
 pub(crate) struct Pen<'a> {
     out: &'a mut [u8],
