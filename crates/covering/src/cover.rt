@@ -50,5 +50,8 @@ pub fn spare(notes: &Notes, i: u8) -> Option<u64>
         return None;
     }
     let mut from = [NONE; 64];
-    search(&notes.pairs, drop_one(notes.pairs.sensors, i), u, &mut from).err()
+    let Err(group) = search(&notes.pairs, drop_one(notes.pairs.sensors, i), u, &mut from) else {
+        return None;
+    };
+    Some(group)
 }

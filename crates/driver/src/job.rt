@@ -1,6 +1,5 @@
 //! A job is a list of steps, and is built, settled and listed.
-use crate::NO_RULES;
-use arrayvec::ArrayVec;
+use crate::NO_RULE;
 use board::domains::Domains;
 use board::refusal::Refusal;
 use kinds::SheetRule;
@@ -90,7 +89,7 @@ impl TryFrom<&Step> for Act {
 // The answer to each call goes into `answers`, as far as that reaches: 0, or the number of the refusal.
 // Numbers, since C calls it.
 pub fn slotplan_listing(job: &[Step], answers: &mut [u8], out: &mut [u8]) -> usize {
-    let mut places = NO_RULES;
+    let mut places = [NO_RULE; MOST_PLACES];
     let mut draft = Draft::begin(&mut places);
     for (i, step) in job.iter().enumerate() {
         let answer = call(&mut draft, step);
@@ -103,24 +102,27 @@ pub fn slotplan_listing(job: &[Step], answers: &mut [u8], out: &mut [u8]) -> usi
 
 // Makes the calls on a new draft and settles it, that many times; the first sensor's candidates, joined by exclusive or.
 pub fn slotplan_jobs(job: &[Step], times: u32) -> u64 {
-    let mut places = NO_RULES;
+    let mut places = [NO_RULE; MOST_PLACES];
     (0..times).fold(0, |sum, _time| sum ^ settled_first(job, &mut places))
 }
 
 // Makes the calls once and settles what they give that many times; the first sensor's candidates, joined by exclusive or.
 pub fn slotplan_settles(job: &[Step], times: u32) -> u64 {
-    let (start, rules) = prepare(job);
+    let mut rules = [NO_RULE; MOST_PLACES];
+    let (start, count) = prepare(job, &mut rules);
+    let used = &rules[..count.min(MOST_PLACES)];
     (0..times).fold(0, |sum, _time| {
         let mut d = start;
-        settle(&rules, &mut d);
+        settle(used, &mut d);
         sum ^ d.candidates(0)
     })
 }
 
-// The box that the entries of a job leave, and its rules, as many as a table may have.
-fn prepare(job: &[Step]) -> (Domains, ArrayVec<SheetRule, MOST_PLACES>) {
+// The box that the entries of a job leave, and its rules, written to the front of a list; how many there are.
+// The list is lent, with a count: an `ArrayVec` is made by value, which takes 6 KiB more of the stack.
+fn prepare(job: &[Step], rules: &mut [SheetRule]) -> (Domains, usize) {
     let mut start = Domains::least();
-    let mut rules = ArrayVec::new();
+    let mut count = 0;
     for step in job {
         match Act::try_from(step) {
             Ok(Act::New { n, m, k, kinds }) => start = Domains::new(
@@ -139,12 +141,15 @@ fn prepare(job: &[Step]) -> (Domains, ArrayVec<SheetRule, MOST_PLACES>) {
                 start.bar(set, mask);
             }
             Ok(Act::Post(rule)) => {
-                let _ = rules.try_push(rule);
+                if count < rules.len() {
+                    rules[count] = rule;
+                    count += 1;
+                }
             }
             Err(NoCall) => {}
         }
     }
-    (start, rules)
+    (start, count)
 }
 
 fn settled_first(job: &[Step], places: &mut [SheetRule]) -> u64 {

@@ -17,8 +17,8 @@ use planner::printing::print_sheet;
 use sets::row::Row;
 use text::listing;
 
-// A const cannot call `default`.
-const NO_RULES: [SheetRule; MOST_PLACES] = [SheetRule::Row(Row { a: 0 }); MOST_PLACES];
+// What a place without a rule has; a const cannot call `default`. It is no table of them: each call would copy that onto its stack once more.
+const NO_RULE: SheetRule = SheetRule::Row(Row { a: 0 });
 
 // How many bytes the longest listing has.
 pub fn slotplan_longest() -> usize
@@ -34,7 +34,7 @@ pub fn slotplan_print(file: &[u8], out: &mut [u8]) -> usize
     ensures printed { Exported (text_of file.now) result out.old out.new }
     ensures enough { length (text_of file.now) ≤ longest_listing }
 {
-    let mut places = NO_RULES;
+    let mut places = [NO_RULE; MOST_PLACES];
     print_sheet(file, &mut places, out).unwrap_or(0)
 }
 
@@ -63,7 +63,7 @@ pub fn slotplan_loads(file: &[u8], times: u32) -> u32
 fn first_left(file: &[u8]) -> u64
     ensures { result ≡ first_of file.now }
 {
-    let mut places = NO_RULES;
+    let mut places = [NO_RULE; MOST_PLACES];
     let mut draft = Draft::begin(&mut places);
     // a match, since a closure for `map_or` would have to take the draft
     match load(file, &mut draft) {
@@ -83,7 +83,7 @@ fn first_of(plan: &Settled<'_, SheetRule>) -> u64
 fn is_loaded(file: &[u8]) -> bool
     ensures { result ≡ accepted file.now }
 {
-    let mut places = NO_RULES;
+    let mut places = [NO_RULE; MOST_PLACES];
     let mut draft = Draft::begin(&mut places);
     load(file, &mut draft).is_ok()
 }

@@ -4,6 +4,8 @@
 #[cfg(test)]
 mod files;
 #[cfg(test)]
+mod mixes;
+#[cfg(test)]
 mod parts;
 #[cfg(test)]
 mod records;

@@ -114,13 +114,13 @@ fn is_open(b: &Small, slots: &[u64; 3]) -> bool {
 
 // Adds a layout to a hull.
 fn add(hull: &mut Small, x: &Layout) {
-    for (cands, slot) in hull.cands.iter_mut().zip(x.slots) {
+    for (cands, slot) in hull.cands.iter_mut().zip(&x.slots) {
         *cands |= slot;
     }
-    for (lo, members) in hull.lo.iter_mut().zip(x.sets) {
+    for (lo, members) in hull.lo.iter_mut().zip(&x.sets) {
         *lo &= members;
     }
-    for (hi, members) in hull.hi.iter_mut().zip(x.sets) {
+    for (hi, members) in hull.hi.iter_mut().zip(&x.sets) {
         *hi |= members;
     }
 }

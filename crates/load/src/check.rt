@@ -1,5 +1,6 @@
 //! The first pass: whether a file can be loaded, found without the draft.
-ghost use Rattle.std.specs.Prelude.{◌≡◌, OnOk};
+ghost use Rattle.std.specs.Prelude.{◌≡◌, OnOk, if◌then◌else◌, min, nat_le};
+ghost use Rattle.model.specs.Capacity.{most_places};
 ghost use Rattle.model.specs.Calls.{State};
 ghost use Rattle.board.specs.Numbers.{outcome};
 ghost use Rattle.kinds.specs.declared.SheetRule.{SheetRule};
@@ -51,9 +52,16 @@ impl Sketch {
         ensures answer { (s : State SheetRule) → Stands s self.old → outcome result ≡ verdict (Act.Post rule) s }
         ensures after { OnOk result ((s : State SheetRule) → Stands s self.old → Stands (taken (Act.Post rule) s) self.new) }
     {
-        earlier(rule.fit(&self.board), fit_count(self.places, self.count))?;
+        earlier(rule.fit(&self.board), self.room())?;
         self.count += 1;
         Ok(())
+    }
+
+    // Whether there is a place for one more rule.
+    fn room(&self) -> Result<(), Refusal>
+        ensures { outcome result ≡ (if nat_le (min self.now.places most_places) self.now.count then 8 else 0) }
+    {
+        fit_count(self.places, self.count)
     }
 
     // What the planner answers, and what is kept of the plan after it.

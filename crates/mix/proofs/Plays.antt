@@ -7,7 +7,7 @@ use Rattle.model.specs.Box.{Box}
 use Rattle.model.specs.Calls.{Call, State, after, does}
 use Rattle.model.specs.Layout.{Layout}
 use Rattle.model.proofs.Mixes.{after-board}
-use Rattle.mix.specs.Played.{answer_of, answers_all, calls_all, calls_of}
+use Rattle.mix.specs.Played.{Answered, answer_of, answers_all, calls_all, calls_of}
 use Rattle.plan.specs.Trust.{Leads, begun}
 use Rattle.plan.proofs.Trusting.{after-places}
 use Rattle.mix.specs.declared.Step.{Step}
@@ -55,8 +55,12 @@ module _ {R : Type 0} (fault : Board → R → ℕ) (run : Board → R → Box �
       ];
     }
 
-  pub all-played : (xs : List (Step R)) (s : State R) (i : ℕ) (t : State R) (given : List ℕ) → i ≡ length xs → SoFar xs s i t given → t ≡ after fault run (calls_all xs) s
-  all-played xs s i t given e w = w.plan ∙ ap (λ z. after fault run (calls_all z) s) (take_all i xs (omega arith))
+  pub all-played : (xs : List (Step R)) (s : State R) (i : ℕ) (t : State R) (given : List ℕ) → i ≡ length xs → SoFar xs s i t given
+      → (t ≡ after fault run (calls_all xs) s) × Answered fault run xs s given
+  all-played xs s i t given e w = (
+    w.plan ∙ ap (λ z. after fault run (calls_all z) s) (take_all i xs (omega arith)),
+    λ k h l. w.answered k (omega arith) l,
+  )
 
   -- a mix that led to the plan before leads with these calls to the plan after
   pub leads-on : (holds : Board → R → Layout → Bool) (h g : List (Call R)) (s t : State R) → t ≡ after fault run g s → Leads fault holds run h s → Leads fault holds run (h ++ g) t

@@ -23,29 +23,54 @@ pub enum Step<R> {
     Settle,
 }
 
+// How an answer is kept: as the result of its call, or as a number.
+pub trait Answer {
+    // 0, or the number of the refusal
+    ghost number: { Self → ℕ };
+
+    fn told(answer: Result<(), Refusal>) -> Self
+        ensures { number result ≡ outcome answer };
+}
+
+impl Answer for Result<(), Refusal> {
+    ghost number = { outcome };
+
+    fn told(answer: Result<(), Refusal>) -> Result<(), Refusal> {
+        answer
+    }
+}
+
+impl Answer for u8 {
+    ghost number = { λ n. n };
+
+    fn told(answer: Result<(), Refusal>) -> u8 {
+        answer.err().map_or(0, u8::from)
+    }
+}
+
 // Makes the calls of the steps one after the other, and gives the answers one for one.
 // If a mix of calls led to the draft, that mix and these calls lead to the one that is given back, so that settling it keeps every promise on mixes.
-pub fn play<'a, R: Rule + Copy>(
+pub fn play<'a, R: Rule + Copy, A: Answer + Drop>(
     draft: Draft<'a, R>,
     steps: &[Step<R>],
-    answers: &mut [Result<(), Refusal>],
+    answers: &mut [A],
 ) -> Draft<'a, R>
     ensures lent { SameLoan draft.entry result }
     ensures plan { state_of result ≡ after R.fault R.run (calls_all steps.now) (state_of draft.entry) }
-    ensures answered { Answered R.fault R.run steps.now (state_of draft.entry) (map outcome answers.new) }
+    ensures answered { Answered R.fault R.run steps.now (state_of draft.entry) (map A.number answers.new) }
     ensures leads { (h : List (Call R)) → Leads R.fault R.holds R.run h (state_of draft.entry) → Leads R.fault R.holds R.run (h ++ calls_all steps.now) (state_of result) }
 {
     let mut held = draft;
     for (i, step) in steps.iter().enumerate() {
         let mut answer = Ok(());
         held = act(held, step, &mut answer);
-        write(answers, i, answer);
+        write(answers, i, A::told(answer));
     }
     held
 }
 
 // Writes an answer, where there is a place for it. By its index: what `get_mut` ensures says nothing of the slice after a write.
-fn write(answers: &mut [Result<(), Refusal>], i: usize, answer: Result<(), Refusal>)
+fn write<A: Drop>(answers: &mut [A], i: usize, answer: A)
     ensures { answers.new ≡ slice_set answers.old i answer }
 {
     if i < answers.len() {

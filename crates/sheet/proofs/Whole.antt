@@ -116,12 +116,12 @@ pub moves : (x y : Reader) → y.file.now ≡ x.file.now → y.at ≡ onward x.a
 moves x y f a = record { file = f; at = a; begun = ap begun_at a ∙ begun-goes x.file.now x.at (turned x) x.begins refl }
 
 -- the same as a reader's answer and the rest
-told-by : (at : ℕ) (t : Result (Option (Rec × ℕ)) ℕ) (o : Option Rec) → Ok o ≡ bare t → Ok o ≡ told at t
+pub told-by : (at : ℕ) (t : Result (Option (Rec × ℕ)) ℕ) (o : Option Rec) → Ok o ≡ bare t → Ok o ≡ told at t
 told-by at (Ok None) o h = cc
 told-by at (Ok (Some p)) o h = cc
 told-by at (Err e) o h = cc
 
-told-fault : (at : ℕ) (t : Result (Option (Rec × ℕ)) ℕ) (e : ℕ) → Err e ≡ bare t → Err (e, at) ≡ told at t
+pub told-fault : (at : ℕ) (t : Result (Option (Rec × ℕ)) ℕ) (e : ℕ) → Err e ≡ bare t → Err (e, at) ≡ told at t
 told-fault at (Ok None) e h = cc
 told-fault at (Ok (Some p)) e h = cc
 told-fault at (Err d) e h = cc

@@ -1,8 +1,5 @@
-use Rattle.std.proofs.Common.{ℕ, ◌^◌, ◌<◌, get_or, sym, subst, Result, Ok, Err, MatchResult, MatchOption, rules}
-use Rattle.std.specs.Result.{result_err}
-use Rattle.std.proofs.lemmas.Result.{MatchResult-weaker}
-use Rattle.covering.specs.Covering.{Avoidable}
-use Rattle.covering.specs.Roles.{Plays}
+use Rattle.std.proofs.Common.{ℕ, ◌^◌, ◌<◌, get_or, sym, subst, rules}
+use Rattle.covering.specs.Covering.{Avoidable, Needed}
 use Rattle.covering.specs.Search.{Owners}
 use Rattle.covering.proofs.Held.{at-notes, slot, sensors-low, claimed-low}
 use Rattle.covering.proofs.Coverings.{idle-avoidable, outside, unowned, owners-without, led-avoidable, stuck-needed}
@@ -32,19 +29,20 @@ search-requires c =
           (owners-without n.matching (sensors-low n) (claimed-low n (search rules)) l low);
     }
 
--- what a search says where only its group is handed on
-err-part : (A : Type 0) (B : ℕ → Type 0) (r : Result ℕ ℕ) → MatchResult r (λ _. A) B → MatchOption (result_err r) A B
-err-part A B (Ok t) a = a
-err-part A B (Err z) b = b
+pub returns-in_default : goal.returns-in_default
+returns-in_default c can s k f =
+    let n = c.args.notes.now in
+    let l = c.if-i-ge-NONE.false in
+    let low = claimed-low n (search rules) in
+    let led = simp (c.drop_one.ensures.low l) at c.in_default.ensures in
+    at-notes (λ x y. Avoidable can x y c.args.i) can s k n f (λ o.
+    led-avoidable n.matching (sensors-low n) low l (slot n c.args.i l c.if-u-eq-NONE.false) o.takers led)
 
 pub returns : goal.returns
 returns c can s k f =
     let n = c.args.notes.now in
     let l = c.if-i-ge-NONE.false in
     let low = claimed-low n (search rules) in
-    let u = slot n c.args.i l c.if-u-eq-NONE.false in
-    let found = simp (c.drop_one.ensures.low l) at c.search.ensures in
-    at-notes (λ x y. Plays can x y c.args.i c.err.result) can s k n f (λ o. simp c.err.ensures.value
-    (err-part _ _ c.search.result (MatchResult-weaker c.search.result found
-    (λ t led. led-avoidable n.matching (sensors-low n) low l u o.takers led)
-    (λ z stuck. stuck-needed n.matching (sensors-low n) low l u o.takers stuck))))
+    let stuck = simp (c.drop_one.ensures.low l) at c.in-Err.ensures in
+    at-notes (λ x y. Needed can x y c.args.i c.in-Err.group) can s k n f (λ o.
+    stuck-needed n.matching (sensors-low n) low l (slot n c.args.i l c.if-u-eq-NONE.false) o.takers stuck)

@@ -8,5 +8,5 @@ pub overflow_add-self : goal.overflow_add-self
 overflow_add-self c =
     let t = c.args.self.now in
     let z = earlier-none-r _ _ (sym c.in_ok-earlier.ensures) in
-    let h : t.count < min t.places most_places = leb-false _ _ (no-eight _ (sym c.fit_count.ensures ∙ z)) in
+    let h : t.count < min t.places most_places = leb-false _ _ (no-eight _ (sym c.room.ensures ∙ z)) in
     search rules
